@@ -1,0 +1,4 @@
+pub mod Decoded
+pub mod Inverse
+pub mod Rows
+pub mod Spelled

@@ -1,0 +1,19 @@
+// The instructions of the Ridge 32: the opcode table, decoding, encoding and text.
+mod decoder;
+mod encoder;
+mod encoding;
+mod kinds;
+mod table;
+
+pub use decoder::decode;
+pub use encoding::Encoding;
+pub use kinds::Indexing;
+pub use kinds::Instruction;
+pub use kinds::Kind;
+pub use kinds::Opcode;
+pub use kinds::Relation;
+pub use kinds::Second;
+pub use kinds::Side;
+pub use kinds::Undecoded;
+pub use kinds::Width;
+pub use table::lookup;
