@@ -72,4 +72,4 @@ right bs k n d h e l s =
     let put : ℕ → ℕ → Instruction = λ m w. record { kind = k; size = m; x = getD bs 1 0 / 16; y = getD bs 1 0 % 16; displacement = w } in
     let told : displacementIn (drop 2 bs) ≡ d = ap displacementIn (sym (rest-is bs)) ∙ b .1 in
     sym (carried bs k h e ∙ ap (λ t. cond t (Ok (instruction k bs)) (Err WrongLength)) w
-         ∙ ap (λ m. Ok (put m (displacementIn (drop 2 bs)))) size ∙ ap (λ m. Ok (put n m)) told)
+    ∙ ap (λ m. Ok (put m (displacementIn (drop 2 bs)))) size ∙ ap (λ m. Ok (put n m)) told)

@@ -6,11 +6,14 @@ use mathlib.Core.List.{List, [], _∷_}
 use native.Mathlib.Nat.{add-zero, add-suc, suc-add, zero-add, le-of-suc-le-suc, not-suc-le-zero}
 use lib.Dec.{eqb, ltb}
 use lib.ListN.{getD}
-use borrow.Author.Tests.{ltb-true}
-use Rattle.isa.specs.Formats.{Formatted, displaced, indexed, reaching, sizeAt}
+use borrow.Author.Tests.{eqb-true, ltb-true}
+use Rattle.isa.specs.Formats.{Formatted, LastBit, displaced, shapeOf, sizeAt}
 use Rattle.isa.specs.Map.{opcodeAt, lengthOf, Ruled}
+use Rattle.isa.specs.declared.kinds.Indexing.the-variants.{Direct, Indexed}
 use Rattle.isa.specs.declared.kinds.Opcode.{Opcode}
 use Rattle.isa.specs.declared.kinds.Opcode.the-variants.{Empty, NotCarried, Kernel, Carried}
+use Rattle.isa.specs.declared.kinds.Shape.{Shape}
+use Rattle.isa.specs.declared.kinds.Shape.the-variants.{Bare, Number, Entry, Pair, Compare, Branch, Jump, Call, Loop, Memory}
 
 -- n values of f from i on
 abbrev pub listed : {A : Type 0} → (ℕ → A) → ℕ → ℕ → List A
@@ -47,13 +50,40 @@ pub both-are : (a b : Bool) → both a b ≡ true → (a ≡ true) × (b ≡ tru
 both-are true b e = (refl, e)
 both-are false b e = (e, cc)
 
+bit-holds : Shape → ℕ → Bool
+bit-holds Bare op = true
+bit-holds Number op = true
+bit-holds Entry op = true
+bit-holds (Pair s) op = true
+bit-holds (Compare r s) op = true
+bit-holds (Branch r s) op = true
+bit-holds Jump op = true
+bit-holds Call op = true
+bit-holds Loop op = true
+bit-holds (Memory Direct) op = eqb (op % 2) 0
+bit-holds (Memory Indexed) op = eqb (op % 2) 1
+
+bit-sound : (s : Shape) (op : ℕ) → bit-holds s op ≡ true → LastBit s op
+unfolding bit-holds
+bit-sound Bare op e = tt
+bit-sound Number op e = tt
+bit-sound Entry op e = tt
+bit-sound (Pair s) op e = tt
+bit-sound (Compare r s) op e = tt
+bit-sound (Branch r s) op e = tt
+bit-sound Jump op e = tt
+bit-sound Call op e = tt
+bit-sound Loop op e = tt
+bit-sound (Memory Direct) op e = eqb-true (op % 2) 0 e
+bit-sound (Memory Indexed) op e = eqb-true (op % 2) 1 e
+
 -- the length and format rule of a row as a test
 holds : ℕ → Opcode → Bool
 holds op Empty = true
 holds op NotCarried = ltb op 0x80
 holds op Kernel = ltb op 0x80
 holds op (Carried k) =
-    both (same (displaced k) (not (ltb op 0x80))) (same (indexed k) (cond (reaching k) (eqb (op % 2) 1) false))
+    both (same (displaced (shapeOf k)) (not (ltb op 0x80))) (bit-holds (shapeOf k) op)
 
 short : (op : ℕ) → ltb op 0x80 ≡ true → (op < 0x80) × (sizeAt op ≡ 2)
 short op e = (ltb-true op 0x80 e, ap (λ b. cond b 2 (cond (ltb (op % 32) 16) 4 6)) e)
@@ -65,11 +95,11 @@ sound op NotCarried e = short op e
 sound op Kernel e = short op e
 sound op (Carried k) e =
     let parts = both-are _ _ e in
-    record { half = same-is _ _ (parts .0); last-bit = same-is _ _ (parts .1); long = refl }
+    record { half = same-is _ _ (parts .0); last-bit = bit-sound (shapeOf k) op (parts .1); long = refl }
 
 -- it passes at every row: one computation
 passes : listed (λ op. holds op (opcodeAt op)) 0 256 ≡ listed (λ _. true) 0 256
-unfolding holds opcodeAt
+unfolding holds bit-holds opcodeAt
 passes = refl
 
 -- what is true at each of 256 places is true at any of them

@@ -67,8 +67,9 @@ read bs i b d =
     let w = is-whole bs i k (whole bs) refl (sym (carried bs k (c .0) (c .2)) ∙ d) in
     let l = leads (getD bs 0 0) k (b 0) (c .2) in
     let i-is : instruction k bs ≡ i = w .1 in
-    let size : i .size ≡ sizeAt (getD bs 0 0) = ap (λ j. j .size) (sym i-is) ∙ w .0 in
-    (l .0, record {
+    let size : i .size ≡ sizeAt (getD bs 0 0) = ap (λ j. j .size) (sym i-is) ∙ w .0 in (
+      l .0,
+      record {
         from = ap (λ j. opcodeOf (j .kind)) (sym i-is) ∙ l .1 .from;
         here = l .1 .here ∙ ap (λ n. l .0 + longBy n) (sym size);
         half = l .1 .half;
@@ -76,7 +77,9 @@ read bs i b d =
         long = ap (λ j. j .size) i-is;
         x = ap (λ j. j .x) (sym i-is);
         y = ap (λ j. j .y) (sym i-is);
-        told = ap (λ j. j .displacement) (sym i-is) })
+        told = ap (λ j. j .displacement) (sym i-is);
+      },
+    )
 
 -- an instruction by its fields
 put : Kind → ℕ → ℕ → ℕ → ℕ → Instruction
@@ -126,14 +129,15 @@ pub two : (i : Instruction) (op : ℕ) → opcodeOf (i .kind) ≡ Some op → op
 two i op e h hx hy n d =
     let f = fields i hx hy in
     record {
-        decodes = decodes (op ∷ (i .x * 16 + i .y) ∷ []) i (lit≤ tt) (at i op e .0) (sym (low op h)) (sym n) (f .0) (f .1) (sym d);
-        only = λ other b o.
-            let r = read other i b o in
-            let long : length other ≡ 2 = r .1 .long ∙ n in
-            let l : other ≡ getD other 0 0 ∷ getD other 1 0 ∷ [] = fill-by-all (λ k. getD other k 0) other 2 0 long (λ k _. refl) in
-            let e0 : getD other 0 0 ≡ op = first (r .1) e ∙ ap (λ m. op + longBy m) n ∙ add-zero op in
-            let e1 = second (r .1) in
-            cc }
+      decodes = decodes (op ∷ (i .x * 16 + i .y) ∷ []) i (lit≤ tt) (at i op e .0) (sym (low op h)) (sym n) (f .0) (f .1) (sym d);
+      only = λ other b o.
+          let r = read other i b o in
+          let long : length other ≡ 2 = r .1 .long ∙ n in
+          let l : other ≡ getD other 0 0 ∷ getD other 1 0 ∷ [] = fill-by-all (λ k. getD other k 0) other 2 0 long (λ k _. refl) in
+          let e0 : getD other 0 0 ≡ op = first (r .1) e ∙ ap (λ m. op + longBy m) n ∙ add-zero op in
+          let e1 = second (r .1) in
+          cc;
+    }
 
 sign-digits : (a b w : ℕ) → a < 256 → b < 256 → w ≡ extended (a * 256 + b) → (a ≡ w / 256 % 256) × (b ≡ w % 256)
 sign-digits a b w ha hb e = by-sign (ltb (a * 256 + b) 0x8000) e
@@ -148,19 +152,20 @@ pub four : (i : Instruction) (op c d : ℕ) → opcodeOf (i .kind) ≡ Some op �
 four i op c d e h hx hy n ec ed w =
     let f = fields i hx hy in
     record {
-        decodes = decodes (op ∷ (i .x * 16 + i .y) ∷ c ∷ d ∷ []) i (lit≤ tt) (at i op e .0) (sym (high i op e h .0)) (sym n) (f .0) (f .1) w;
-        only = λ other b o.
-            let r = read other i b o in
-            let long : length other ≡ 4 = r .1 .long ∙ n in
-            let l : other ≡ getD other 0 0 ∷ getD other 1 0 ∷ getD other 2 0 ∷ getD other 3 0 ∷ [] =
-                fill-by-all (λ k. getD other k 0) other 4 0 long (λ k _. refl) in
-            let e0 : getD other 0 0 ≡ op = first (r .1) e ∙ ap (λ m. op + longBy m) n ∙ add-zero op in
-            let e1 = second (r .1) in
-            let digits = sign-digits (getD other 2 0) (getD other 3 0) (i .displacement) (b 2) (b 3)
-                         (r .1 .told ∙ ap (λ m. displacementIn (drop 2 m)) l) in
-            let e2 : getD other 2 0 ≡ c = digits .0 ∙ sym ec in
-            let e3 : getD other 3 0 ≡ d = digits .1 ∙ sym ed in
-            cc }
+      decodes = decodes (op ∷ (i .x * 16 + i .y) ∷ c ∷ d ∷ []) i (lit≤ tt) (at i op e .0) (sym (high i op e h .0)) (sym n) (f .0) (f .1) w;
+      only = λ other b o.
+          let r = read other i b o in
+          let long : length other ≡ 4 = r .1 .long ∙ n in
+          let l : other ≡ getD other 0 0 ∷ getD other 1 0 ∷ getD other 2 0 ∷ getD other 3 0 ∷ [] =
+          fill-by-all (λ k. getD other k 0) other 4 0 long (λ k _. refl) in
+          let e0 : getD other 0 0 ≡ op = first (r .1) e ∙ ap (λ m. op + longBy m) n ∙ add-zero op in
+          let e1 = second (r .1) in
+          let digits = sign-digits (getD other 2 0) (getD other 3 0) (i .displacement) (b 2) (b 3)
+          (r .1 .told ∙ ap (λ m. displacementIn (drop 2 m)) l) in
+          let e2 : getD other 2 0 ≡ c = digits .0 ∙ sym ec in
+          let e3 : getD other 3 0 ≡ d = digits .1 ∙ sym ed in
+          cc;
+    }
 
 word-digits : (a b c d w : ℕ) → a < 256 → b < 256 → c < 256 → d < 256 → w ≡ a * 16777216 + b * 65536 + c * 256 + d →
     (a ≡ w / 16777216 % 256) × (b ≡ w / 65536 % 256) × (c ≡ w / 256 % 256) × (d ≡ w % 256)
@@ -180,27 +185,28 @@ word-of w h =
 pub six : (i : Instruction) (op : ℕ) → opcodeOf (i .kind) ≡ Some op → 0x80 ≤ op → i .x ≤ 15 → i .y ≤ 15 → i .size ≡ 6 →
     i .displacement < 4294967296 →
     Spells i ((op + 16) ∷ (i .x * 16 + i .y) ∷ (i .displacement / 16777216 % 256) ∷ (i .displacement / 65536 % 256)
-              ∷ (i .displacement / 256 % 256) ∷ (i .displacement % 256) ∷ [])
+    ∷ (i .displacement / 256 % 256) ∷ (i .displacement % 256) ∷ [])
 six i op e h hx hy n hw =
     let f = fields i hx hy in
     let p = high i op e h in
     record {
-        decodes = decodes ((op + 16) ∷ (i .x * 16 + i .y) ∷ (i .displacement / 16777216 % 256) ∷ (i .displacement / 65536 % 256)
-                            ∷ (i .displacement / 256 % 256) ∷ (i .displacement % 256) ∷ []) i (lit≤ tt) (p .1) (sym (p .2)) (sym n) (f .0) (f .1) (word-of (i .displacement) hw);
-        only = λ other b o.
-            let r = read other i b o in
-            let long : length other ≡ 6 = r .1 .long ∙ n in
-            let l : other ≡ getD other 0 0 ∷ getD other 1 0 ∷ getD other 2 0 ∷ getD other 3 0 ∷ getD other 4 0 ∷ getD other 5 0 ∷ [] =
-                fill-by-all (λ k. getD other k 0) other 6 0 long (λ k _. refl) in
-            let e0 : getD other 0 0 ≡ op + 16 = first (r .1) e ∙ ap (λ m. op + longBy m) n in
-            let e1 = second (r .1) in
-            let digits = word-digits (getD other 2 0) (getD other 3 0) (getD other 4 0) (getD other 5 0) (i .displacement)
-                         (b 2) (b 3) (b 4) (b 5) (r .1 .told ∙ ap (λ m. displacementIn (drop 2 m)) l) in
-            let e2 = digits .0 in
-            let e3 = digits .1 in
-            let e4 = digits .2 in
-            let e5 = digits .3 in
-            cc }
+      decodes = decodes ((op + 16) ∷ (i .x * 16 + i .y) ∷ (i .displacement / 16777216 % 256) ∷ (i .displacement / 65536 % 256)
+          ∷ (i .displacement / 256 % 256) ∷ (i .displacement % 256) ∷ []) i (lit≤ tt) (p .1) (sym (p .2)) (sym n) (f .0) (f .1) (word-of (i .displacement) hw);
+      only = λ other b o.
+          let r = read other i b o in
+          let long : length other ≡ 6 = r .1 .long ∙ n in
+          let l : other ≡ getD other 0 0 ∷ getD other 1 0 ∷ getD other 2 0 ∷ getD other 3 0 ∷ getD other 4 0 ∷ getD other 5 0 ∷ [] =
+          fill-by-all (λ k. getD other k 0) other 6 0 long (λ k _. refl) in
+          let e0 : getD other 0 0 ≡ op + 16 = first (r .1) e ∙ ap (λ m. op + longBy m) n in
+          let e1 = second (r .1) in
+          let digits = word-digits (getD other 2 0) (getD other 3 0) (getD other 4 0) (getD other 5 0) (i .displacement)
+          (b 2) (b 3) (b 4) (b 5) (r .1 .told ∙ ap (λ m. displacementIn (drop 2 m)) l) in
+          let e2 = digits .0 in
+          let e3 = digits .1 in
+          let e4 = digits .2 in
+          let e5 = digits .3 in
+          cc;
+    }
 
 -- a kind that the map lacks
 pub unmapped : (i : Instruction) → opcodeOf (i .kind) ≡ None → Unspelled i
@@ -219,7 +225,7 @@ by-size bs i op b r true u et eu n =
     fits-two n (ltb-true op 0x80 (r .half ∙ et)) (r .told ∙ ap (λ m. displacementIn (drop 2 m)) l)
 by-size bs i op b r false true et eu n =
     let l : bs ≡ getD bs 0 0 ∷ getD bs 1 0 ∷ getD bs 2 0 ∷ getD bs 3 0 ∷ [] =
-        fill-by-all (λ k. getD bs k 0) bs 4 0 (r .long ∙ n) (λ k _. refl) in
+    fill-by-all (λ k. getD bs k 0) bs 4 0 (r .long ∙ n) (λ k _. refl) in
     let told : i .displacement ≡ extended (getD bs 2 0 * 256 + getD bs 3 0) = r .told ∙ ap (λ m. displacementIn (drop 2 m)) l in
     let digits = sign-digits (getD bs 2 0) (getD bs 3 0) (i .displacement) (b 2) (b 3) told in
     fits-four n (ltb-false op 0x80 (r .half ∙ et))

@@ -29,7 +29,7 @@ abbrev pub displacementIn : List ℕ → ℕ
 displacementIn d =
     cond (eqb (length d) 0) 0
     (cond (eqb (length d) 2) (extended (getD d 0 0 * 256 + getD d 1 0))
-     (getD d 0 0 * 16777216 + getD d 1 0 * 65536 + getD d 2 0 * 256 + getD d 3 0))
+    (getD d 0 0 * 16777216 + getD d 1 0 * 65536 + getD d 2 0 * 256 + getD d 3 0))
 
 abbrev pub instruction : Kind → List ℕ → Instruction
 instruction k bs =

@@ -78,23 +78,23 @@ loads s =
 abbrev pub rows : List (List Opcode)
 rows =
     (Empty ∷ reg Move ∷ is Neg ∷ reg Add ∷ reg Sub ∷ reg Mpy ∷ is Div ∷ is Rem
-     ∷ reg Not ∷ is Or ∷ is Xor ∷ reg And ∷ is Cbit ∷ is Sbit ∷ is Tbit ∷ reg Chk ∷ [])
+    ∷ reg Not ∷ is Or ∷ is Xor ∷ reg And ∷ is Cbit ∷ is Sbit ∷ is Tbit ∷ reg Chk ∷ [])
     ∷ (is Nop ∷ imm Move ∷ Empty ∷ imm Add ∷ imm Sub ∷ imm Mpy ∷ Empty ∷ Empty
-       ∷ imm Not ∷ Empty ∷ Empty ∷ imm And ∷ Empty ∷ Empty ∷ Empty ∷ imm Chk ∷ [])
+    ∷ imm Not ∷ Empty ∷ Empty ∷ imm And ∷ Empty ∷ Empty ∷ Empty ∷ imm Chk ∷ [])
     ∷ (NotCarried ∷ NotCarried ∷ NotCarried ∷ NotCarried ∷ NotCarried ∷ NotCarried ∷ NotCarried ∷ NotCarried
-       ∷ is Lcomp ∷ NotCarried ∷ NotCarried ∷ Empty ∷ NotCarried ∷ NotCarried ∷ NotCarried ∷ NotCarried ∷ [])
+    ∷ is Lcomp ∷ NotCarried ∷ NotCarried ∷ Empty ∷ NotCarried ∷ NotCarried ∷ NotCarried ∷ NotCarried ∷ [])
     ∷ (NotCarried ∷ NotCarried ∷ NotCarried ∷ NotCarried ∷ NotCarried ∷ NotCarried ∷ NotCarried ∷ NotCarried
-       ∷ is Dcomp ∷ NotCarried ∷ NotCarried ∷ is Trap ∷ Empty ∷ Empty ∷ Empty ∷ Empty ∷ [])
+    ∷ is Dcomp ∷ NotCarried ∷ NotCarried ∷ is Trap ∷ Empty ∷ Empty ∷ Empty ∷ Empty ∷ [])
     ∷ (Kernel ∷ Kernel ∷ Kernel ∷ Kernel ∷ Kernel ∷ Kernel ∷ Kernel ∷ Kernel
-       ∷ Empty ∷ Empty ∷ Empty ∷ Empty ∷ Kernel ∷ Empty ∷ Kernel ∷ Kernel ∷ [])
+    ∷ Empty ∷ Empty ∷ Empty ∷ Empty ∷ Kernel ∷ Empty ∷ Kernel ∷ Kernel ∷ [])
     ∷ (test Greater Register ∷ test Less Register ∷ test Equal Register ∷ is Callr
-       ∷ test Greater Field ∷ test Less Field ∷ test Equal Field ∷ is Ret
-       ∷ test LessOrEqual Register ∷ test GreaterOrEqual Register ∷ test NotEqual Register ∷ is Kcall
-       ∷ test LessOrEqual Field ∷ test GreaterOrEqual Field ∷ test NotEqual Field ∷ Empty ∷ [])
+    ∷ test Greater Field ∷ test Less Field ∷ test Equal Field ∷ is Ret
+    ∷ test LessOrEqual Register ∷ test GreaterOrEqual Register ∷ test NotEqual Register ∷ is Kcall
+    ∷ test LessOrEqual Field ∷ test GreaterOrEqual Field ∷ test NotEqual Field ∷ Empty ∷ [])
     ∷ (reg Lsl ∷ reg Lsr ∷ reg Asl ∷ reg Asr ∷ reg Dlsl ∷ reg Dlsr ∷ Empty ∷ Empty
-       ∷ reg Csl ∷ Empty ∷ is Seb ∷ Empty ∷ Empty ∷ Empty ∷ Empty ∷ Empty ∷ [])
+    ∷ reg Csl ∷ Empty ∷ is Seb ∷ Empty ∷ Empty ∷ Empty ∷ Empty ∷ Empty ∷ [])
     ∷ (imm Lsl ∷ imm Lsr ∷ imm Asl ∷ imm Asr ∷ imm Dlsl ∷ imm Dlsr ∷ Empty ∷ Empty
-       ∷ imm Csl ∷ Empty ∷ is Seh ∷ Empty ∷ Empty ∷ Empty ∷ Empty ∷ Empty ∷ [])
+    ∷ imm Csl ∷ Empty ∷ is Seh ∷ Empty ∷ Empty ∷ Empty ∷ Empty ∷ Empty ∷ [])
     ∷ branches ∷ branches ∷ stores ∷ stores ∷ loads Data ∷ loads Data ∷ loads Code ∷ loads Code ∷ []
 
 -- the cell in row op / 16 and column op mod 16

@@ -17,7 +17,11 @@ use super::table::lookup;
 pub fn extend(half: u16) -> u32
     ensures { λ r. ⌜ r ≡ extended half ⌝ }
 {
-    if half < 0x8000 { u32::from(half) } else { u32::from(half) + 0xffff_0000 }
+    if half < 0x8000 {
+        u32::from(half)
+    } else {
+        u32::from(half) + 0xffff_0000
+    }
 }
 
 // The displacement of a carried opcode, from the bytes after the fields; none where they are too few or too many.
@@ -50,7 +54,13 @@ pub fn decode(bytes: &[u8]) -> Result<Instruction, Undecoded>
             let Some(displacement) = displacement(*op, d) else {
                 return Err(Undecoded::WrongLength);
             };
-            Ok(Instruction { kind, size, x: xy / 16, y: xy % 16, displacement })
+            Ok(Instruction {
+                kind,
+                size,
+                x: xy / 16,
+                y: xy % 16,
+                displacement,
+            })
         }
     }
 }

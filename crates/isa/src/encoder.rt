@@ -118,11 +118,20 @@ impl Instruction {
         let xy = i.x * 16 + i.y;
         let [a, b, c, d] = i.displacement.to_be_bytes();
         match i.size {
-            2 if op < 0x80 && i.displacement == 0 => Some(Encoding { bytes: [op, xy, 0, 0, 0, 0], size: 2 }),
+            2 if op < 0x80 && i.displacement == 0 => Some(Encoding {
+                bytes: [op, xy, 0, 0, 0, 0],
+                size: 2,
+            }),
             4 if op >= 0x80 && extend(u16::from_be_bytes([c, d])) == i.displacement => {
-                Some(Encoding { bytes: [op, xy, c, d, 0, 0], size: 4 })
+                Some(Encoding {
+                    bytes: [op, xy, c, d, 0, 0],
+                    size: 4,
+                })
             }
-            6 if op >= 0x80 => Some(Encoding { bytes: [op + 16, xy, a, b, c, d], size: 6 }),
+            6 if op >= 0x80 => Some(Encoding {
+                bytes: [op + 16, xy, a, b, c, d],
+                size: 6,
+            }),
             _ => None,
         }
     }

@@ -87,6 +87,29 @@ pub enum Kind {
     Laddr(Side, Indexing),
 }
 
+// What the fields and the displacement of an instruction stand for.
+#[derive(Clone, Copy, PartialEq, Eq, Debug)]
+pub enum Shape {
+    // nothing
+    Bare,
+    // the Ry field a number
+    Number,
+    // both fields one number
+    Entry,
+    // Rx and a second operand
+    Pair(Second),
+    // Rx compared with a second operand
+    Compare(Relation, Second),
+    // the same, and the displacement a branch
+    Branch(Relation, Second),
+    // the displacement a branch; for a call with Rx, for a loop with Rx and the Ry field a number
+    Jump,
+    Call,
+    Loop,
+    // Rx and the address of an operand in memory
+    Memory(Indexing),
+}
+
 // A cell of the opcode map.
 #[derive(Clone, Copy, PartialEq, Eq, Debug)]
 pub enum Opcode {

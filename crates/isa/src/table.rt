@@ -10,7 +10,9 @@ use super::kinds::Side;
 use super::kinds::Width;
 
 const EMPTY: (Opcode, u8) = (Opcode::Empty, 0);
+
 const NOT_CARRIED: (Opcode, u8) = (Opcode::NotCarried, 2);
+
 const KERNEL: (Opcode, u8) = (Opcode::Kernel, 2);
 
 static TABLE: [(Opcode, u8); 256] = [
@@ -100,21 +102,57 @@ static TABLE: [(Opcode, u8); 256] = [
     KERNEL,
     KERNEL,
     // 50
-    (Opcode::Carried(Kind::Test(Relation::Greater, Second::Register)), 2),
-    (Opcode::Carried(Kind::Test(Relation::Less, Second::Register)), 2),
-    (Opcode::Carried(Kind::Test(Relation::Equal, Second::Register)), 2),
+    (
+        Opcode::Carried(Kind::Test(Relation::Greater, Second::Register)),
+        2,
+    ),
+    (
+        Opcode::Carried(Kind::Test(Relation::Less, Second::Register)),
+        2,
+    ),
+    (
+        Opcode::Carried(Kind::Test(Relation::Equal, Second::Register)),
+        2,
+    ),
     (Opcode::Carried(Kind::Callr), 2),
-    (Opcode::Carried(Kind::Test(Relation::Greater, Second::Field)), 2),
-    (Opcode::Carried(Kind::Test(Relation::Less, Second::Field)), 2),
-    (Opcode::Carried(Kind::Test(Relation::Equal, Second::Field)), 2),
+    (
+        Opcode::Carried(Kind::Test(Relation::Greater, Second::Field)),
+        2,
+    ),
+    (
+        Opcode::Carried(Kind::Test(Relation::Less, Second::Field)),
+        2,
+    ),
+    (
+        Opcode::Carried(Kind::Test(Relation::Equal, Second::Field)),
+        2,
+    ),
     (Opcode::Carried(Kind::Ret), 2),
-    (Opcode::Carried(Kind::Test(Relation::LessOrEqual, Second::Register)), 2),
-    (Opcode::Carried(Kind::Test(Relation::GreaterOrEqual, Second::Register)), 2),
-    (Opcode::Carried(Kind::Test(Relation::NotEqual, Second::Register)), 2),
+    (
+        Opcode::Carried(Kind::Test(Relation::LessOrEqual, Second::Register)),
+        2,
+    ),
+    (
+        Opcode::Carried(Kind::Test(Relation::GreaterOrEqual, Second::Register)),
+        2,
+    ),
+    (
+        Opcode::Carried(Kind::Test(Relation::NotEqual, Second::Register)),
+        2,
+    ),
     (Opcode::Carried(Kind::Kcall), 2),
-    (Opcode::Carried(Kind::Test(Relation::LessOrEqual, Second::Field)), 2),
-    (Opcode::Carried(Kind::Test(Relation::GreaterOrEqual, Second::Field)), 2),
-    (Opcode::Carried(Kind::Test(Relation::NotEqual, Second::Field)), 2),
+    (
+        Opcode::Carried(Kind::Test(Relation::LessOrEqual, Second::Field)),
+        2,
+    ),
+    (
+        Opcode::Carried(Kind::Test(Relation::GreaterOrEqual, Second::Field)),
+        2,
+    ),
+    (
+        Opcode::Carried(Kind::Test(Relation::NotEqual, Second::Field)),
+        2,
+    ),
     EMPTY,
     // 60
     (Opcode::Carried(Kind::Lsl(Second::Register)), 2),
@@ -151,50 +189,134 @@ static TABLE: [(Opcode, u8); 256] = [
     EMPTY,
     EMPTY,
     // 80
-    (Opcode::Carried(Kind::Branch(Relation::Greater, Second::Register)), 4),
+    (
+        Opcode::Carried(Kind::Branch(Relation::Greater, Second::Register)),
+        4,
+    ),
     EMPTY,
-    (Opcode::Carried(Kind::Branch(Relation::Equal, Second::Register)), 4),
+    (
+        Opcode::Carried(Kind::Branch(Relation::Equal, Second::Register)),
+        4,
+    ),
     (Opcode::Carried(Kind::Call), 4),
-    (Opcode::Carried(Kind::Branch(Relation::Greater, Second::Field)), 4),
-    (Opcode::Carried(Kind::Branch(Relation::Less, Second::Field)), 4),
-    (Opcode::Carried(Kind::Branch(Relation::Equal, Second::Field)), 4),
+    (
+        Opcode::Carried(Kind::Branch(Relation::Greater, Second::Field)),
+        4,
+    ),
+    (
+        Opcode::Carried(Kind::Branch(Relation::Less, Second::Field)),
+        4,
+    ),
+    (
+        Opcode::Carried(Kind::Branch(Relation::Equal, Second::Field)),
+        4,
+    ),
     (Opcode::Carried(Kind::Loop), 4),
-    (Opcode::Carried(Kind::Branch(Relation::LessOrEqual, Second::Register)), 4),
+    (
+        Opcode::Carried(Kind::Branch(Relation::LessOrEqual, Second::Register)),
+        4,
+    ),
     EMPTY,
-    (Opcode::Carried(Kind::Branch(Relation::NotEqual, Second::Register)), 4),
+    (
+        Opcode::Carried(Kind::Branch(Relation::NotEqual, Second::Register)),
+        4,
+    ),
     (Opcode::Carried(Kind::Jump), 4),
-    (Opcode::Carried(Kind::Branch(Relation::LessOrEqual, Second::Field)), 4),
-    (Opcode::Carried(Kind::Branch(Relation::GreaterOrEqual, Second::Field)), 4),
-    (Opcode::Carried(Kind::Branch(Relation::NotEqual, Second::Field)), 4),
+    (
+        Opcode::Carried(Kind::Branch(Relation::LessOrEqual, Second::Field)),
+        4,
+    ),
+    (
+        Opcode::Carried(Kind::Branch(Relation::GreaterOrEqual, Second::Field)),
+        4,
+    ),
+    (
+        Opcode::Carried(Kind::Branch(Relation::NotEqual, Second::Field)),
+        4,
+    ),
     EMPTY,
     // 90
-    (Opcode::Carried(Kind::Branch(Relation::Greater, Second::Register)), 6),
+    (
+        Opcode::Carried(Kind::Branch(Relation::Greater, Second::Register)),
+        6,
+    ),
     EMPTY,
-    (Opcode::Carried(Kind::Branch(Relation::Equal, Second::Register)), 6),
+    (
+        Opcode::Carried(Kind::Branch(Relation::Equal, Second::Register)),
+        6,
+    ),
     (Opcode::Carried(Kind::Call), 6),
-    (Opcode::Carried(Kind::Branch(Relation::Greater, Second::Field)), 6),
-    (Opcode::Carried(Kind::Branch(Relation::Less, Second::Field)), 6),
-    (Opcode::Carried(Kind::Branch(Relation::Equal, Second::Field)), 6),
+    (
+        Opcode::Carried(Kind::Branch(Relation::Greater, Second::Field)),
+        6,
+    ),
+    (
+        Opcode::Carried(Kind::Branch(Relation::Less, Second::Field)),
+        6,
+    ),
+    (
+        Opcode::Carried(Kind::Branch(Relation::Equal, Second::Field)),
+        6,
+    ),
     (Opcode::Carried(Kind::Loop), 6),
-    (Opcode::Carried(Kind::Branch(Relation::LessOrEqual, Second::Register)), 6),
+    (
+        Opcode::Carried(Kind::Branch(Relation::LessOrEqual, Second::Register)),
+        6,
+    ),
     EMPTY,
-    (Opcode::Carried(Kind::Branch(Relation::NotEqual, Second::Register)), 6),
+    (
+        Opcode::Carried(Kind::Branch(Relation::NotEqual, Second::Register)),
+        6,
+    ),
     (Opcode::Carried(Kind::Jump), 6),
-    (Opcode::Carried(Kind::Branch(Relation::LessOrEqual, Second::Field)), 6),
-    (Opcode::Carried(Kind::Branch(Relation::GreaterOrEqual, Second::Field)), 6),
-    (Opcode::Carried(Kind::Branch(Relation::NotEqual, Second::Field)), 6),
+    (
+        Opcode::Carried(Kind::Branch(Relation::LessOrEqual, Second::Field)),
+        6,
+    ),
+    (
+        Opcode::Carried(Kind::Branch(Relation::GreaterOrEqual, Second::Field)),
+        6,
+    ),
+    (
+        Opcode::Carried(Kind::Branch(Relation::NotEqual, Second::Field)),
+        6,
+    ),
     EMPTY,
     // a0
-    (Opcode::Carried(Kind::Store(Width::Byte, Indexing::Direct)), 4),
-    (Opcode::Carried(Kind::Store(Width::Byte, Indexing::Indexed)), 4),
-    (Opcode::Carried(Kind::Store(Width::Halfword, Indexing::Direct)), 4),
-    (Opcode::Carried(Kind::Store(Width::Halfword, Indexing::Indexed)), 4),
+    (
+        Opcode::Carried(Kind::Store(Width::Byte, Indexing::Direct)),
+        4,
+    ),
+    (
+        Opcode::Carried(Kind::Store(Width::Byte, Indexing::Indexed)),
+        4,
+    ),
+    (
+        Opcode::Carried(Kind::Store(Width::Halfword, Indexing::Direct)),
+        4,
+    ),
+    (
+        Opcode::Carried(Kind::Store(Width::Halfword, Indexing::Indexed)),
+        4,
+    ),
     EMPTY,
     EMPTY,
-    (Opcode::Carried(Kind::Store(Width::Word, Indexing::Direct)), 4),
-    (Opcode::Carried(Kind::Store(Width::Word, Indexing::Indexed)), 4),
-    (Opcode::Carried(Kind::Store(Width::Double, Indexing::Direct)), 4),
-    (Opcode::Carried(Kind::Store(Width::Double, Indexing::Indexed)), 4),
+    (
+        Opcode::Carried(Kind::Store(Width::Word, Indexing::Direct)),
+        4,
+    ),
+    (
+        Opcode::Carried(Kind::Store(Width::Word, Indexing::Indexed)),
+        4,
+    ),
+    (
+        Opcode::Carried(Kind::Store(Width::Double, Indexing::Direct)),
+        4,
+    ),
+    (
+        Opcode::Carried(Kind::Store(Width::Double, Indexing::Indexed)),
+        4,
+    ),
     EMPTY,
     EMPTY,
     EMPTY,
@@ -202,16 +324,40 @@ static TABLE: [(Opcode, u8); 256] = [
     EMPTY,
     EMPTY,
     // b0
-    (Opcode::Carried(Kind::Store(Width::Byte, Indexing::Direct)), 6),
-    (Opcode::Carried(Kind::Store(Width::Byte, Indexing::Indexed)), 6),
-    (Opcode::Carried(Kind::Store(Width::Halfword, Indexing::Direct)), 6),
-    (Opcode::Carried(Kind::Store(Width::Halfword, Indexing::Indexed)), 6),
+    (
+        Opcode::Carried(Kind::Store(Width::Byte, Indexing::Direct)),
+        6,
+    ),
+    (
+        Opcode::Carried(Kind::Store(Width::Byte, Indexing::Indexed)),
+        6,
+    ),
+    (
+        Opcode::Carried(Kind::Store(Width::Halfword, Indexing::Direct)),
+        6,
+    ),
+    (
+        Opcode::Carried(Kind::Store(Width::Halfword, Indexing::Indexed)),
+        6,
+    ),
     EMPTY,
     EMPTY,
-    (Opcode::Carried(Kind::Store(Width::Word, Indexing::Direct)), 6),
-    (Opcode::Carried(Kind::Store(Width::Word, Indexing::Indexed)), 6),
-    (Opcode::Carried(Kind::Store(Width::Double, Indexing::Direct)), 6),
-    (Opcode::Carried(Kind::Store(Width::Double, Indexing::Indexed)), 6),
+    (
+        Opcode::Carried(Kind::Store(Width::Word, Indexing::Direct)),
+        6,
+    ),
+    (
+        Opcode::Carried(Kind::Store(Width::Word, Indexing::Indexed)),
+        6,
+    ),
+    (
+        Opcode::Carried(Kind::Store(Width::Double, Indexing::Direct)),
+        6,
+    ),
+    (
+        Opcode::Carried(Kind::Store(Width::Double, Indexing::Indexed)),
+        6,
+    ),
     EMPTY,
     EMPTY,
     EMPTY,
@@ -219,73 +365,193 @@ static TABLE: [(Opcode, u8); 256] = [
     EMPTY,
     EMPTY,
     // c0
-    (Opcode::Carried(Kind::Load(Side::Data, Width::Byte, Indexing::Direct)), 4),
-    (Opcode::Carried(Kind::Load(Side::Data, Width::Byte, Indexing::Indexed)), 4),
-    (Opcode::Carried(Kind::Load(Side::Data, Width::Halfword, Indexing::Direct)), 4),
-    (Opcode::Carried(Kind::Load(Side::Data, Width::Halfword, Indexing::Indexed)), 4),
+    (
+        Opcode::Carried(Kind::Load(Side::Data, Width::Byte, Indexing::Direct)),
+        4,
+    ),
+    (
+        Opcode::Carried(Kind::Load(Side::Data, Width::Byte, Indexing::Indexed)),
+        4,
+    ),
+    (
+        Opcode::Carried(Kind::Load(Side::Data, Width::Halfword, Indexing::Direct)),
+        4,
+    ),
+    (
+        Opcode::Carried(Kind::Load(Side::Data, Width::Halfword, Indexing::Indexed)),
+        4,
+    ),
     EMPTY,
     EMPTY,
-    (Opcode::Carried(Kind::Load(Side::Data, Width::Word, Indexing::Direct)), 4),
-    (Opcode::Carried(Kind::Load(Side::Data, Width::Word, Indexing::Indexed)), 4),
-    (Opcode::Carried(Kind::Load(Side::Data, Width::Double, Indexing::Direct)), 4),
-    (Opcode::Carried(Kind::Load(Side::Data, Width::Double, Indexing::Indexed)), 4),
+    (
+        Opcode::Carried(Kind::Load(Side::Data, Width::Word, Indexing::Direct)),
+        4,
+    ),
+    (
+        Opcode::Carried(Kind::Load(Side::Data, Width::Word, Indexing::Indexed)),
+        4,
+    ),
+    (
+        Opcode::Carried(Kind::Load(Side::Data, Width::Double, Indexing::Direct)),
+        4,
+    ),
+    (
+        Opcode::Carried(Kind::Load(Side::Data, Width::Double, Indexing::Indexed)),
+        4,
+    ),
     EMPTY,
     EMPTY,
     EMPTY,
     EMPTY,
-    (Opcode::Carried(Kind::Laddr(Side::Data, Indexing::Direct)), 4),
-    (Opcode::Carried(Kind::Laddr(Side::Data, Indexing::Indexed)), 4),
+    (
+        Opcode::Carried(Kind::Laddr(Side::Data, Indexing::Direct)),
+        4,
+    ),
+    (
+        Opcode::Carried(Kind::Laddr(Side::Data, Indexing::Indexed)),
+        4,
+    ),
     // d0
-    (Opcode::Carried(Kind::Load(Side::Data, Width::Byte, Indexing::Direct)), 6),
-    (Opcode::Carried(Kind::Load(Side::Data, Width::Byte, Indexing::Indexed)), 6),
-    (Opcode::Carried(Kind::Load(Side::Data, Width::Halfword, Indexing::Direct)), 6),
-    (Opcode::Carried(Kind::Load(Side::Data, Width::Halfword, Indexing::Indexed)), 6),
+    (
+        Opcode::Carried(Kind::Load(Side::Data, Width::Byte, Indexing::Direct)),
+        6,
+    ),
+    (
+        Opcode::Carried(Kind::Load(Side::Data, Width::Byte, Indexing::Indexed)),
+        6,
+    ),
+    (
+        Opcode::Carried(Kind::Load(Side::Data, Width::Halfword, Indexing::Direct)),
+        6,
+    ),
+    (
+        Opcode::Carried(Kind::Load(Side::Data, Width::Halfword, Indexing::Indexed)),
+        6,
+    ),
     EMPTY,
     EMPTY,
-    (Opcode::Carried(Kind::Load(Side::Data, Width::Word, Indexing::Direct)), 6),
-    (Opcode::Carried(Kind::Load(Side::Data, Width::Word, Indexing::Indexed)), 6),
-    (Opcode::Carried(Kind::Load(Side::Data, Width::Double, Indexing::Direct)), 6),
-    (Opcode::Carried(Kind::Load(Side::Data, Width::Double, Indexing::Indexed)), 6),
+    (
+        Opcode::Carried(Kind::Load(Side::Data, Width::Word, Indexing::Direct)),
+        6,
+    ),
+    (
+        Opcode::Carried(Kind::Load(Side::Data, Width::Word, Indexing::Indexed)),
+        6,
+    ),
+    (
+        Opcode::Carried(Kind::Load(Side::Data, Width::Double, Indexing::Direct)),
+        6,
+    ),
+    (
+        Opcode::Carried(Kind::Load(Side::Data, Width::Double, Indexing::Indexed)),
+        6,
+    ),
     EMPTY,
     EMPTY,
     EMPTY,
     EMPTY,
-    (Opcode::Carried(Kind::Laddr(Side::Data, Indexing::Direct)), 6),
-    (Opcode::Carried(Kind::Laddr(Side::Data, Indexing::Indexed)), 6),
+    (
+        Opcode::Carried(Kind::Laddr(Side::Data, Indexing::Direct)),
+        6,
+    ),
+    (
+        Opcode::Carried(Kind::Laddr(Side::Data, Indexing::Indexed)),
+        6,
+    ),
     // e0
-    (Opcode::Carried(Kind::Load(Side::Code, Width::Byte, Indexing::Direct)), 4),
-    (Opcode::Carried(Kind::Load(Side::Code, Width::Byte, Indexing::Indexed)), 4),
-    (Opcode::Carried(Kind::Load(Side::Code, Width::Halfword, Indexing::Direct)), 4),
-    (Opcode::Carried(Kind::Load(Side::Code, Width::Halfword, Indexing::Indexed)), 4),
+    (
+        Opcode::Carried(Kind::Load(Side::Code, Width::Byte, Indexing::Direct)),
+        4,
+    ),
+    (
+        Opcode::Carried(Kind::Load(Side::Code, Width::Byte, Indexing::Indexed)),
+        4,
+    ),
+    (
+        Opcode::Carried(Kind::Load(Side::Code, Width::Halfword, Indexing::Direct)),
+        4,
+    ),
+    (
+        Opcode::Carried(Kind::Load(Side::Code, Width::Halfword, Indexing::Indexed)),
+        4,
+    ),
     EMPTY,
     EMPTY,
-    (Opcode::Carried(Kind::Load(Side::Code, Width::Word, Indexing::Direct)), 4),
-    (Opcode::Carried(Kind::Load(Side::Code, Width::Word, Indexing::Indexed)), 4),
-    (Opcode::Carried(Kind::Load(Side::Code, Width::Double, Indexing::Direct)), 4),
-    (Opcode::Carried(Kind::Load(Side::Code, Width::Double, Indexing::Indexed)), 4),
+    (
+        Opcode::Carried(Kind::Load(Side::Code, Width::Word, Indexing::Direct)),
+        4,
+    ),
+    (
+        Opcode::Carried(Kind::Load(Side::Code, Width::Word, Indexing::Indexed)),
+        4,
+    ),
+    (
+        Opcode::Carried(Kind::Load(Side::Code, Width::Double, Indexing::Direct)),
+        4,
+    ),
+    (
+        Opcode::Carried(Kind::Load(Side::Code, Width::Double, Indexing::Indexed)),
+        4,
+    ),
     EMPTY,
     EMPTY,
     EMPTY,
     EMPTY,
-    (Opcode::Carried(Kind::Laddr(Side::Code, Indexing::Direct)), 4),
-    (Opcode::Carried(Kind::Laddr(Side::Code, Indexing::Indexed)), 4),
+    (
+        Opcode::Carried(Kind::Laddr(Side::Code, Indexing::Direct)),
+        4,
+    ),
+    (
+        Opcode::Carried(Kind::Laddr(Side::Code, Indexing::Indexed)),
+        4,
+    ),
     // f0
-    (Opcode::Carried(Kind::Load(Side::Code, Width::Byte, Indexing::Direct)), 6),
-    (Opcode::Carried(Kind::Load(Side::Code, Width::Byte, Indexing::Indexed)), 6),
-    (Opcode::Carried(Kind::Load(Side::Code, Width::Halfword, Indexing::Direct)), 6),
-    (Opcode::Carried(Kind::Load(Side::Code, Width::Halfword, Indexing::Indexed)), 6),
+    (
+        Opcode::Carried(Kind::Load(Side::Code, Width::Byte, Indexing::Direct)),
+        6,
+    ),
+    (
+        Opcode::Carried(Kind::Load(Side::Code, Width::Byte, Indexing::Indexed)),
+        6,
+    ),
+    (
+        Opcode::Carried(Kind::Load(Side::Code, Width::Halfword, Indexing::Direct)),
+        6,
+    ),
+    (
+        Opcode::Carried(Kind::Load(Side::Code, Width::Halfword, Indexing::Indexed)),
+        6,
+    ),
     EMPTY,
     EMPTY,
-    (Opcode::Carried(Kind::Load(Side::Code, Width::Word, Indexing::Direct)), 6),
-    (Opcode::Carried(Kind::Load(Side::Code, Width::Word, Indexing::Indexed)), 6),
-    (Opcode::Carried(Kind::Load(Side::Code, Width::Double, Indexing::Direct)), 6),
-    (Opcode::Carried(Kind::Load(Side::Code, Width::Double, Indexing::Indexed)), 6),
+    (
+        Opcode::Carried(Kind::Load(Side::Code, Width::Word, Indexing::Direct)),
+        6,
+    ),
+    (
+        Opcode::Carried(Kind::Load(Side::Code, Width::Word, Indexing::Indexed)),
+        6,
+    ),
+    (
+        Opcode::Carried(Kind::Load(Side::Code, Width::Double, Indexing::Direct)),
+        6,
+    ),
+    (
+        Opcode::Carried(Kind::Load(Side::Code, Width::Double, Indexing::Indexed)),
+        6,
+    ),
     EMPTY,
     EMPTY,
     EMPTY,
     EMPTY,
-    (Opcode::Carried(Kind::Laddr(Side::Code, Indexing::Direct)), 6),
-    (Opcode::Carried(Kind::Laddr(Side::Code, Indexing::Indexed)), 6),
+    (
+        Opcode::Carried(Kind::Laddr(Side::Code, Indexing::Direct)),
+        6,
+    ),
+    (
+        Opcode::Carried(Kind::Laddr(Side::Code, Indexing::Indexed)),
+        6,
+    ),
 ];
 
 // The row of an opcode.

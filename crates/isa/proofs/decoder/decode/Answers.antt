@@ -15,5 +15,7 @@ returns-in-rest-displacement c =
 pub returns-in-Some : need.returns-in-Some
 returns-in-Some c =
     let h : 2 ≤ length (c .args .bytes .now) = search needs in
-    record { value = right (c .args .bytes .now) _ _ _ h (sym (c .lookup-cell .ensures .cell) ∙ c .in-Carried .is) (c .lookup-cell .ensures .length) (c .in-Some .ensures tt);
-             format = subst (λ o. Ruled (getD (c .args .bytes .now) 0 0) o (c .lookup-cell .result .1)) (c .in-Carried .is) (c .lookup-cell .ensures .format) }
+    record {
+      value = right (c .args .bytes .now) _ _ _ h (sym (c .lookup-cell .ensures .cell) ∙ c .in-Carried .is) (c .lookup-cell .ensures .length) (c .in-Some .ensures tt);
+      format = subst (λ o. Ruled (getD (c .args .bytes .now) 0 0) o (c .lookup-cell .result .1)) (c .in-Carried .is) (c .lookup-cell .ensures .format);
+    }

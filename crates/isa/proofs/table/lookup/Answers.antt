@@ -11,5 +11,8 @@ unfolding opcodeAt
 returns c =
     let h : c .args .op < 256 = search needs in
     let row = row-of _ refl (c .args .op) h in
-    record { cell = ap (λ r. r .0) row; length = ap (λ r. r .1) row;
-             format = subst (λ r. Ruled (c .args .op) (r .0) (r .1)) (sym row) (ruled (c .args .op) h) }
+    record {
+      cell = ap (λ r. r .0) row;
+      length = ap (λ r. r .1) row;
+      format = subst (λ r. Ruled (c .args .op) (r .0) (r .1)) (sym row) (ruled (c .args .op) h);
+    }

@@ -47,20 +47,23 @@ returns-in-6 c =
 pub returns-in-rest·2 : need.returns-in-rest·2
 returns-in-rest·2 c bs b d =
     elim (fits (c .args .self) (c .in-Continue-op .op) (sym (c .opcode .ensures) ∙ c .in-Continue-op .was tt) bs b d) [
-      fits-two n h w ↦ search needs
-    | fits-four n h w ↦ search needs
-    | fits-six n h ↦ search needs ]
+      | fits-two n h w ↦ search needs
+      | fits-four n h w ↦ search needs
+      | fits-six n h ↦ search needs
+    ]
 
 pub returns-in-rest·4 : need.returns-in-rest·4
 returns-in-rest·4 c bs b d =
     elim (fits (c .args .self) (c .in-Continue-op .op) (sym (c .opcode .ensures) ∙ c .in-Continue-op .was tt) bs b d) [
-      fits-two n h w ↦ search needs
-    | fits-four n h w ↦ search needs
-    | fits-six n h ↦ search needs ]
+      | fits-two n h w ↦ search needs
+      | fits-four n h w ↦ search needs
+      | fits-six n h ↦ search needs
+    ]
 
 pub returns-in-rest·5 : need.returns-in-rest·5
 returns-in-rest·5 c bs b d =
     elim (fits (c .args .self) (c .in-Continue-op .op) (sym (c .opcode .ensures) ∙ c .in-Continue-op .was tt) bs b d) [
-      fits-two n h w ↦ search needs
-    | fits-four n h w ↦ search needs
-    | fits-six n h ↦ search needs ]
+      | fits-two n h w ↦ search needs
+      | fits-four n h w ↦ search needs
+      | fits-six n h ↦ search needs
+    ]
