@@ -17,6 +17,7 @@ pub use kinds::Relation;
 pub use kinds::Second;
 pub use kinds::Shape;
 pub use kinds::Side;
+pub use kinds::SidePartialEq;
 pub use kinds::Undecoded;
 pub use kinds::Width;
 pub use table::lookup;

@@ -1,0 +1,9 @@
+pub mod Blocks
+pub mod Bytes
+pub mod Grammar
+pub mod Images
+pub mod Kept
+pub mod Known
+pub mod Order
+pub mod Several
+pub mod Turns

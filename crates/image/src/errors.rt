@@ -1,0 +1,53 @@
+// Why an image is not read, and why a list of records is not written.
+ghost use mathlib.Core.Path.{_≡_};
+ghost use Rattle.image.specs.declared.errors.ReadError.{ReadError};
+ghost use Rattle.image.specs.declared.errors.WriteError.{WriteError};
+use std::alloc::AllocError;
+use std::alloc::Refused;
+
+#[derive(Clone, Copy, PartialEq, Eq, Debug)]
+pub enum ReadError {
+    // The offset of the first count or record that is not whole, or of the first byte left over;
+    // of an image that is too long, its limit.
+    Unreadable(usize),
+    Memory,
+}
+
+// The first of these rules that a list of records breaks.
+#[derive(Clone, Copy, PartialEq, Eq, Debug)]
+pub enum WriteError {
+    // The records follow the order of the sections.
+    OutOfOrder,
+    // A section has at most 65,535 records.
+    TooManyRecords,
+    // A fill has at most 65,535 bytes.
+    FillTooLong,
+    // An image has at most `LIMIT` bytes.
+    ImageTooLong,
+    // No rule is broken, and there is no memory for the image.
+    Memory,
+}
+
+pub impl From<AllocError> for ReadError as ReadErrorFromAlloc {
+    ghost converts = { λ _ r. r ≡ ReadError.Memory };
+
+    fn from(_e: AllocError) -> ReadError {
+        ReadError::Memory
+    }
+}
+
+pub impl<T: Drop> From<Refused<T>> for ReadError as ReadErrorFromRefused {
+    ghost converts = { λ _ r. r ≡ ReadError.Memory };
+
+    fn from(_e: Refused<T>) -> ReadError {
+        ReadError::Memory
+    }
+}
+
+pub impl From<AllocError> for WriteError as WriteErrorFromAlloc {
+    ghost converts = { λ _ r. r ≡ WriteError.Memory };
+
+    fn from(_e: AllocError) -> WriteError {
+        WriteError::Memory
+    }
+}

@@ -1,0 +1,26 @@
+// What can go wrong in writing a listing.
+use std::alloc::AllocError;
+use std::alloc::Refused;
+use std::fmt;
+
+// There is no memory for the listing.
+#[derive(Clone, Copy, PartialEq, Eq, Debug)]
+pub struct OutOfMemory;
+
+pub impl From<AllocError> for OutOfMemory as OutOfMemoryFromAlloc {
+    fn from(_e: AllocError) -> OutOfMemory {
+        OutOfMemory
+    }
+}
+
+pub impl<T: Drop> From<Refused<T>> for OutOfMemory as OutOfMemoryFromRefused {
+    fn from(_e: Refused<T>) -> OutOfMemory {
+        OutOfMemory
+    }
+}
+
+pub impl From<fmt::Error> for OutOfMemory as OutOfMemoryFromFmt {
+    fn from(_e: fmt::Error) -> OutOfMemory {
+        OutOfMemory
+    }
+}
