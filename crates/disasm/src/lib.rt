@@ -5,7 +5,6 @@ ghost use Rattle.disasm.specs.Text.{address, bySecond, byWidth, distance, mnem
 ghost use Rattle.std.specs.declared.option.Option.the-variants.{Some};
 use isa::Indexing;
 use isa::Instruction;
-use isa::InstructionDebug;
 use isa::Kind;
 use isa::Relation;
 use isa::Second;
@@ -174,7 +173,7 @@ impl fmt::Display for Sign as SignDisplay {
 }
 
 // An instruction to be shown.
-#[derive(Clone, Copy, Debug)]
+#[derive(Clone, Copy)]
 pub struct Text(pub Instruction);
 
 pub impl fmt::Display for Text as TextDisplay {

@@ -129,5 +129,5 @@ module _ {ss : List Section} {bs rest : List ℕ} {items : List Placed} (part : 
   pub walked-reads : length rest ≡ 0 → Reads bs items
   walked-reads e = subst (Reads bs) (sym (whole .listed)) (reads bs (whole .taken) rest (whole .own) (whole .all) (nil-from-length rest e))
 
-  pub walked-rest : 0 < length rest → Refuses bs (length bs - length rest)
-  walked-rest more = refuses-rest bs (whole .taken) rest (whole .own) (whole .all) more
+  pub walked-rest : (o : ℕ) → o ≡ length bs - length rest → 0 < length rest → Refuses bs o
+  walked-rest o e more = subst (Refuses bs) (sym e) (refuses-rest bs (whole .taken) rest (whole .own) (whole .all) more)

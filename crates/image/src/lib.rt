@@ -7,10 +7,16 @@ mod take;
 mod writing;
 
 pub use errors::ReadError;
+pub use errors::ReadErrorDebug;
+pub use errors::ReadErrorEq;
 pub use errors::ReadErrorFromAlloc;
 pub use errors::ReadErrorFromRefused;
+pub use errors::ReadErrorPartialEq;
 pub use errors::WriteError;
+pub use errors::WriteErrorDebug;
+pub use errors::WriteErrorEq;
 pub use errors::WriteErrorFromAlloc;
+pub use errors::WriteErrorPartialEq;
 pub use reading::read;
 pub use records::Admission;
 pub use records::Fill;

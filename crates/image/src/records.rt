@@ -86,7 +86,7 @@ pub const SECTIONS: [Section; 5] = [
 
 impl Section {
     // The section's place in that order.
-    pub fn number(self) -> u8
+    pub(crate) fn number(self) -> u8
         ensures { λ r. ⌜ r ≡ place self ⌝ }
     {
         self as u8

@@ -51,12 +51,11 @@ fn grant(out: &mut Vec<u8>, grant: Grant) -> Result<(), AllocError>
     ensures { λ r. ⌜ Adds (vec-items (now (out .entry))) (vec-items (now (out .exit))) (written (GrantOf grant)) r ⌝ }
 {
     let [p0, p1] = two_bytes(grant.p);
-    let [s0, s1] = two_bytes(
-        match grant.side {
-            Side::Code => 0,
-            Side::Data => 1,
-        },
-    );
+    let side = match grant.side {
+        Side::Code => 0,
+        Side::Data => 1,
+    };
+    let [s0, s1] = two_bytes(side);
     let [g0, g1, g2, g3] = four_bytes(grant.page);
     let [k0, k1] = two_bytes(grant.k);
     out.extend_from_slice(&[p0, p1, s0, s1, g0, g1, g2, g3, k0, k1])

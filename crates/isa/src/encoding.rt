@@ -2,7 +2,7 @@
 ghost use Prim.Native.Nat.{_≤_};
 
 // Two, four or six bytes; what stands behind them is 0.
-#[derive(Clone, Copy, Debug)]
+#[derive(Clone, Copy)]
 pub struct Encoding {
     pub bytes: [u8; 6],
     pub size: usize,

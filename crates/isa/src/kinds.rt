@@ -1,14 +1,14 @@
 // What an opcode names, in the manual's terms.
 
 // The segment that an address lies in.
-#[derive(Clone, Copy, PartialEq, Eq, Debug)]
+#[derive(Clone, Copy, PartialEq, Eq)]
 pub enum Side {
     Code,
     Data,
 }
 
 // How Rx is compared with the second operand, both signed.
-#[derive(Clone, Copy, PartialEq, Eq, Debug)]
+#[derive(Clone, Copy)]
 pub enum Relation {
     Greater,
     Less,
@@ -19,14 +19,14 @@ pub enum Relation {
 }
 
 // What the Ry field gives as second operand: the register of that number, or the four-bit number itself.
-#[derive(Clone, Copy, PartialEq, Eq, Debug)]
+#[derive(Clone, Copy)]
 pub enum Second {
     Register,
     Field,
 }
 
 // The length of an operand in memory: 1, 2, 4 or 8 bytes.
-#[derive(Clone, Copy, PartialEq, Eq, Debug)]
+#[derive(Clone, Copy)]
 pub enum Width {
     Byte,
     Halfword,
@@ -35,14 +35,14 @@ pub enum Width {
 }
 
 // Whether Ry is added to the address of an operand.
-#[derive(Clone, Copy, PartialEq, Eq, Debug)]
+#[derive(Clone, Copy)]
 pub enum Indexing {
     Direct,
     Indexed,
 }
 
 // The carried instructions, by their mnemonics. A `Second` tells the register form from the immediate one.
-#[derive(Clone, Copy, PartialEq, Eq, Debug)]
+#[derive(Clone, Copy)]
 pub enum Kind {
     Move(Second),
     Neg,
@@ -88,7 +88,7 @@ pub enum Kind {
 }
 
 // What the fields and the displacement of an instruction stand for.
-#[derive(Clone, Copy, PartialEq, Eq, Debug)]
+#[derive(Clone, Copy)]
 pub enum Shape {
     // nothing
     Bare,
@@ -111,7 +111,7 @@ pub enum Shape {
 }
 
 // A cell of the opcode map.
-#[derive(Clone, Copy, PartialEq, Eq, Debug)]
+#[derive(Clone, Copy)]
 pub enum Opcode {
     // no instruction
     Empty,
@@ -124,7 +124,7 @@ pub enum Opcode {
 
 // One instruction: its kind, its size in bytes, the fields Rx and Ry, and the displacement as a word,
 // which is 0 where the format has none.
-#[derive(Clone, Copy, PartialEq, Eq, Debug)]
+#[derive(Clone, Copy)]
 pub struct Instruction {
     pub kind: Kind,
     pub size: u8,

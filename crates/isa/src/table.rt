@@ -1,13 +1,14 @@
 // The opcode table: one row for each opcode, with what it names and how many bytes it takes.
 ghost use mathlib.Core.Path.{_≡_};
 ghost use Rattle.isa.specs.Map.{opcodeAt, lengthAt, Ruled};
-use super::kinds::Indexing;
-use super::kinds::Kind;
+use super::kinds::Indexing::*;
+use super::kinds::Kind::*;
 use super::kinds::Opcode;
-use super::kinds::Relation;
-use super::kinds::Second;
-use super::kinds::Side;
-use super::kinds::Width;
+use super::kinds::Opcode::Carried;
+use super::kinds::Relation::*;
+use super::kinds::Second::*;
+use super::kinds::Side::*;
+use super::kinds::Width::*;
 
 const EMPTY: (Opcode, u8) = (Opcode::Empty, 0);
 
@@ -15,41 +16,41 @@ const NOT_CARRIED: (Opcode, u8) = (Opcode::NotCarried, 2);
 
 const KERNEL: (Opcode, u8) = (Opcode::Kernel, 2);
 
-static TABLE: [(Opcode, u8); 256] = [
+const TABLE: [(Opcode, u8); 256] = [
     // 00
     EMPTY,
-    (Opcode::Carried(Kind::Move(Second::Register)), 2),
-    (Opcode::Carried(Kind::Neg), 2),
-    (Opcode::Carried(Kind::Add(Second::Register)), 2),
-    (Opcode::Carried(Kind::Sub(Second::Register)), 2),
-    (Opcode::Carried(Kind::Mpy(Second::Register)), 2),
-    (Opcode::Carried(Kind::Div), 2),
-    (Opcode::Carried(Kind::Rem), 2),
-    (Opcode::Carried(Kind::Not(Second::Register)), 2),
-    (Opcode::Carried(Kind::Or), 2),
-    (Opcode::Carried(Kind::Xor), 2),
-    (Opcode::Carried(Kind::And(Second::Register)), 2),
-    (Opcode::Carried(Kind::Cbit), 2),
-    (Opcode::Carried(Kind::Sbit), 2),
-    (Opcode::Carried(Kind::Tbit), 2),
-    (Opcode::Carried(Kind::Chk(Second::Register)), 2),
+    (Carried(Move(Register)), 2),
+    (Carried(Neg), 2),
+    (Carried(Add(Register)), 2),
+    (Carried(Sub(Register)), 2),
+    (Carried(Mpy(Register)), 2),
+    (Carried(Div), 2),
+    (Carried(Rem), 2),
+    (Carried(Not(Register)), 2),
+    (Carried(Or), 2),
+    (Carried(Xor), 2),
+    (Carried(And(Register)), 2),
+    (Carried(Cbit), 2),
+    (Carried(Sbit), 2),
+    (Carried(Tbit), 2),
+    (Carried(Chk(Register)), 2),
     // 10
-    (Opcode::Carried(Kind::Nop), 2),
-    (Opcode::Carried(Kind::Move(Second::Field)), 2),
+    (Carried(Nop), 2),
+    (Carried(Move(Field)), 2),
     EMPTY,
-    (Opcode::Carried(Kind::Add(Second::Field)), 2),
-    (Opcode::Carried(Kind::Sub(Second::Field)), 2),
-    (Opcode::Carried(Kind::Mpy(Second::Field)), 2),
-    EMPTY,
-    EMPTY,
-    (Opcode::Carried(Kind::Not(Second::Field)), 2),
+    (Carried(Add(Field)), 2),
+    (Carried(Sub(Field)), 2),
+    (Carried(Mpy(Field)), 2),
     EMPTY,
     EMPTY,
-    (Opcode::Carried(Kind::And(Second::Field)), 2),
+    (Carried(Not(Field)), 2),
+    EMPTY,
+    EMPTY,
+    (Carried(And(Field)), 2),
     EMPTY,
     EMPTY,
     EMPTY,
-    (Opcode::Carried(Kind::Chk(Second::Field)), 2),
+    (Carried(Chk(Field)), 2),
     // 20
     NOT_CARRIED,
     NOT_CARRIED,
@@ -59,7 +60,7 @@ static TABLE: [(Opcode, u8); 256] = [
     NOT_CARRIED,
     NOT_CARRIED,
     NOT_CARRIED,
-    (Opcode::Carried(Kind::Lcomp), 2),
+    (Carried(Lcomp), 2),
     NOT_CARRIED,
     NOT_CARRIED,
     EMPTY,
@@ -76,10 +77,10 @@ static TABLE: [(Opcode, u8); 256] = [
     NOT_CARRIED,
     NOT_CARRIED,
     NOT_CARRIED,
-    (Opcode::Carried(Kind::Dcomp), 2),
+    (Carried(Dcomp), 2),
     NOT_CARRIED,
     NOT_CARRIED,
-    (Opcode::Carried(Kind::Trap), 2),
+    (Carried(Trap), 2),
     EMPTY,
     EMPTY,
     EMPTY,
@@ -102,221 +103,101 @@ static TABLE: [(Opcode, u8); 256] = [
     KERNEL,
     KERNEL,
     // 50
-    (
-        Opcode::Carried(Kind::Test(Relation::Greater, Second::Register)),
-        2,
-    ),
-    (
-        Opcode::Carried(Kind::Test(Relation::Less, Second::Register)),
-        2,
-    ),
-    (
-        Opcode::Carried(Kind::Test(Relation::Equal, Second::Register)),
-        2,
-    ),
-    (Opcode::Carried(Kind::Callr), 2),
-    (
-        Opcode::Carried(Kind::Test(Relation::Greater, Second::Field)),
-        2,
-    ),
-    (
-        Opcode::Carried(Kind::Test(Relation::Less, Second::Field)),
-        2,
-    ),
-    (
-        Opcode::Carried(Kind::Test(Relation::Equal, Second::Field)),
-        2,
-    ),
-    (Opcode::Carried(Kind::Ret), 2),
-    (
-        Opcode::Carried(Kind::Test(Relation::LessOrEqual, Second::Register)),
-        2,
-    ),
-    (
-        Opcode::Carried(Kind::Test(Relation::GreaterOrEqual, Second::Register)),
-        2,
-    ),
-    (
-        Opcode::Carried(Kind::Test(Relation::NotEqual, Second::Register)),
-        2,
-    ),
-    (Opcode::Carried(Kind::Kcall), 2),
-    (
-        Opcode::Carried(Kind::Test(Relation::LessOrEqual, Second::Field)),
-        2,
-    ),
-    (
-        Opcode::Carried(Kind::Test(Relation::GreaterOrEqual, Second::Field)),
-        2,
-    ),
-    (
-        Opcode::Carried(Kind::Test(Relation::NotEqual, Second::Field)),
-        2,
-    ),
+    (Carried(Test(Greater, Register)), 2),
+    (Carried(Test(Less, Register)), 2),
+    (Carried(Test(Equal, Register)), 2),
+    (Carried(Callr), 2),
+    (Carried(Test(Greater, Field)), 2),
+    (Carried(Test(Less, Field)), 2),
+    (Carried(Test(Equal, Field)), 2),
+    (Carried(Ret), 2),
+    (Carried(Test(LessOrEqual, Register)), 2),
+    (Carried(Test(GreaterOrEqual, Register)), 2),
+    (Carried(Test(NotEqual, Register)), 2),
+    (Carried(Kcall), 2),
+    (Carried(Test(LessOrEqual, Field)), 2),
+    (Carried(Test(GreaterOrEqual, Field)), 2),
+    (Carried(Test(NotEqual, Field)), 2),
     EMPTY,
     // 60
-    (Opcode::Carried(Kind::Lsl(Second::Register)), 2),
-    (Opcode::Carried(Kind::Lsr(Second::Register)), 2),
-    (Opcode::Carried(Kind::Asl(Second::Register)), 2),
-    (Opcode::Carried(Kind::Asr(Second::Register)), 2),
-    (Opcode::Carried(Kind::Dlsl(Second::Register)), 2),
-    (Opcode::Carried(Kind::Dlsr(Second::Register)), 2),
+    (Carried(Lsl(Register)), 2),
+    (Carried(Lsr(Register)), 2),
+    (Carried(Asl(Register)), 2),
+    (Carried(Asr(Register)), 2),
+    (Carried(Dlsl(Register)), 2),
+    (Carried(Dlsr(Register)), 2),
     EMPTY,
     EMPTY,
-    (Opcode::Carried(Kind::Csl(Second::Register)), 2),
+    (Carried(Csl(Register)), 2),
     EMPTY,
-    (Opcode::Carried(Kind::Seb), 2),
+    (Carried(Seb), 2),
     EMPTY,
     EMPTY,
     EMPTY,
     EMPTY,
     EMPTY,
     // 70
-    (Opcode::Carried(Kind::Lsl(Second::Field)), 2),
-    (Opcode::Carried(Kind::Lsr(Second::Field)), 2),
-    (Opcode::Carried(Kind::Asl(Second::Field)), 2),
-    (Opcode::Carried(Kind::Asr(Second::Field)), 2),
-    (Opcode::Carried(Kind::Dlsl(Second::Field)), 2),
-    (Opcode::Carried(Kind::Dlsr(Second::Field)), 2),
+    (Carried(Lsl(Field)), 2),
+    (Carried(Lsr(Field)), 2),
+    (Carried(Asl(Field)), 2),
+    (Carried(Asr(Field)), 2),
+    (Carried(Dlsl(Field)), 2),
+    (Carried(Dlsr(Field)), 2),
     EMPTY,
     EMPTY,
-    (Opcode::Carried(Kind::Csl(Second::Field)), 2),
+    (Carried(Csl(Field)), 2),
     EMPTY,
-    (Opcode::Carried(Kind::Seh), 2),
+    (Carried(Seh), 2),
     EMPTY,
     EMPTY,
     EMPTY,
     EMPTY,
     EMPTY,
     // 80
-    (
-        Opcode::Carried(Kind::Branch(Relation::Greater, Second::Register)),
-        4,
-    ),
+    (Carried(Branch(Greater, Register)), 4),
     EMPTY,
-    (
-        Opcode::Carried(Kind::Branch(Relation::Equal, Second::Register)),
-        4,
-    ),
-    (Opcode::Carried(Kind::Call), 4),
-    (
-        Opcode::Carried(Kind::Branch(Relation::Greater, Second::Field)),
-        4,
-    ),
-    (
-        Opcode::Carried(Kind::Branch(Relation::Less, Second::Field)),
-        4,
-    ),
-    (
-        Opcode::Carried(Kind::Branch(Relation::Equal, Second::Field)),
-        4,
-    ),
-    (Opcode::Carried(Kind::Loop), 4),
-    (
-        Opcode::Carried(Kind::Branch(Relation::LessOrEqual, Second::Register)),
-        4,
-    ),
+    (Carried(Branch(Equal, Register)), 4),
+    (Carried(Call), 4),
+    (Carried(Branch(Greater, Field)), 4),
+    (Carried(Branch(Less, Field)), 4),
+    (Carried(Branch(Equal, Field)), 4),
+    (Carried(Loop), 4),
+    (Carried(Branch(LessOrEqual, Register)), 4),
     EMPTY,
-    (
-        Opcode::Carried(Kind::Branch(Relation::NotEqual, Second::Register)),
-        4,
-    ),
-    (Opcode::Carried(Kind::Jump), 4),
-    (
-        Opcode::Carried(Kind::Branch(Relation::LessOrEqual, Second::Field)),
-        4,
-    ),
-    (
-        Opcode::Carried(Kind::Branch(Relation::GreaterOrEqual, Second::Field)),
-        4,
-    ),
-    (
-        Opcode::Carried(Kind::Branch(Relation::NotEqual, Second::Field)),
-        4,
-    ),
+    (Carried(Branch(NotEqual, Register)), 4),
+    (Carried(Jump), 4),
+    (Carried(Branch(LessOrEqual, Field)), 4),
+    (Carried(Branch(GreaterOrEqual, Field)), 4),
+    (Carried(Branch(NotEqual, Field)), 4),
     EMPTY,
     // 90
-    (
-        Opcode::Carried(Kind::Branch(Relation::Greater, Second::Register)),
-        6,
-    ),
+    (Carried(Branch(Greater, Register)), 6),
     EMPTY,
-    (
-        Opcode::Carried(Kind::Branch(Relation::Equal, Second::Register)),
-        6,
-    ),
-    (Opcode::Carried(Kind::Call), 6),
-    (
-        Opcode::Carried(Kind::Branch(Relation::Greater, Second::Field)),
-        6,
-    ),
-    (
-        Opcode::Carried(Kind::Branch(Relation::Less, Second::Field)),
-        6,
-    ),
-    (
-        Opcode::Carried(Kind::Branch(Relation::Equal, Second::Field)),
-        6,
-    ),
-    (Opcode::Carried(Kind::Loop), 6),
-    (
-        Opcode::Carried(Kind::Branch(Relation::LessOrEqual, Second::Register)),
-        6,
-    ),
+    (Carried(Branch(Equal, Register)), 6),
+    (Carried(Call), 6),
+    (Carried(Branch(Greater, Field)), 6),
+    (Carried(Branch(Less, Field)), 6),
+    (Carried(Branch(Equal, Field)), 6),
+    (Carried(Loop), 6),
+    (Carried(Branch(LessOrEqual, Register)), 6),
     EMPTY,
-    (
-        Opcode::Carried(Kind::Branch(Relation::NotEqual, Second::Register)),
-        6,
-    ),
-    (Opcode::Carried(Kind::Jump), 6),
-    (
-        Opcode::Carried(Kind::Branch(Relation::LessOrEqual, Second::Field)),
-        6,
-    ),
-    (
-        Opcode::Carried(Kind::Branch(Relation::GreaterOrEqual, Second::Field)),
-        6,
-    ),
-    (
-        Opcode::Carried(Kind::Branch(Relation::NotEqual, Second::Field)),
-        6,
-    ),
+    (Carried(Branch(NotEqual, Register)), 6),
+    (Carried(Jump), 6),
+    (Carried(Branch(LessOrEqual, Field)), 6),
+    (Carried(Branch(GreaterOrEqual, Field)), 6),
+    (Carried(Branch(NotEqual, Field)), 6),
     EMPTY,
     // a0
-    (
-        Opcode::Carried(Kind::Store(Width::Byte, Indexing::Direct)),
-        4,
-    ),
-    (
-        Opcode::Carried(Kind::Store(Width::Byte, Indexing::Indexed)),
-        4,
-    ),
-    (
-        Opcode::Carried(Kind::Store(Width::Halfword, Indexing::Direct)),
-        4,
-    ),
-    (
-        Opcode::Carried(Kind::Store(Width::Halfword, Indexing::Indexed)),
-        4,
-    ),
+    (Carried(Store(Byte, Direct)), 4),
+    (Carried(Store(Byte, Indexed)), 4),
+    (Carried(Store(Halfword, Direct)), 4),
+    (Carried(Store(Halfword, Indexed)), 4),
     EMPTY,
     EMPTY,
-    (
-        Opcode::Carried(Kind::Store(Width::Word, Indexing::Direct)),
-        4,
-    ),
-    (
-        Opcode::Carried(Kind::Store(Width::Word, Indexing::Indexed)),
-        4,
-    ),
-    (
-        Opcode::Carried(Kind::Store(Width::Double, Indexing::Direct)),
-        4,
-    ),
-    (
-        Opcode::Carried(Kind::Store(Width::Double, Indexing::Indexed)),
-        4,
-    ),
+    (Carried(Store(Word, Direct)), 4),
+    (Carried(Store(Word, Indexed)), 4),
+    (Carried(Store(Double, Direct)), 4),
+    (Carried(Store(Double, Indexed)), 4),
     EMPTY,
     EMPTY,
     EMPTY,
@@ -324,40 +205,16 @@ static TABLE: [(Opcode, u8); 256] = [
     EMPTY,
     EMPTY,
     // b0
-    (
-        Opcode::Carried(Kind::Store(Width::Byte, Indexing::Direct)),
-        6,
-    ),
-    (
-        Opcode::Carried(Kind::Store(Width::Byte, Indexing::Indexed)),
-        6,
-    ),
-    (
-        Opcode::Carried(Kind::Store(Width::Halfword, Indexing::Direct)),
-        6,
-    ),
-    (
-        Opcode::Carried(Kind::Store(Width::Halfword, Indexing::Indexed)),
-        6,
-    ),
+    (Carried(Store(Byte, Direct)), 6),
+    (Carried(Store(Byte, Indexed)), 6),
+    (Carried(Store(Halfword, Direct)), 6),
+    (Carried(Store(Halfword, Indexed)), 6),
     EMPTY,
     EMPTY,
-    (
-        Opcode::Carried(Kind::Store(Width::Word, Indexing::Direct)),
-        6,
-    ),
-    (
-        Opcode::Carried(Kind::Store(Width::Word, Indexing::Indexed)),
-        6,
-    ),
-    (
-        Opcode::Carried(Kind::Store(Width::Double, Indexing::Direct)),
-        6,
-    ),
-    (
-        Opcode::Carried(Kind::Store(Width::Double, Indexing::Indexed)),
-        6,
-    ),
+    (Carried(Store(Word, Direct)), 6),
+    (Carried(Store(Word, Indexed)), 6),
+    (Carried(Store(Double, Direct)), 6),
+    (Carried(Store(Double, Indexed)), 6),
     EMPTY,
     EMPTY,
     EMPTY,
@@ -365,193 +222,73 @@ static TABLE: [(Opcode, u8); 256] = [
     EMPTY,
     EMPTY,
     // c0
-    (
-        Opcode::Carried(Kind::Load(Side::Data, Width::Byte, Indexing::Direct)),
-        4,
-    ),
-    (
-        Opcode::Carried(Kind::Load(Side::Data, Width::Byte, Indexing::Indexed)),
-        4,
-    ),
-    (
-        Opcode::Carried(Kind::Load(Side::Data, Width::Halfword, Indexing::Direct)),
-        4,
-    ),
-    (
-        Opcode::Carried(Kind::Load(Side::Data, Width::Halfword, Indexing::Indexed)),
-        4,
-    ),
+    (Carried(Load(Data, Byte, Direct)), 4),
+    (Carried(Load(Data, Byte, Indexed)), 4),
+    (Carried(Load(Data, Halfword, Direct)), 4),
+    (Carried(Load(Data, Halfword, Indexed)), 4),
     EMPTY,
     EMPTY,
-    (
-        Opcode::Carried(Kind::Load(Side::Data, Width::Word, Indexing::Direct)),
-        4,
-    ),
-    (
-        Opcode::Carried(Kind::Load(Side::Data, Width::Word, Indexing::Indexed)),
-        4,
-    ),
-    (
-        Opcode::Carried(Kind::Load(Side::Data, Width::Double, Indexing::Direct)),
-        4,
-    ),
-    (
-        Opcode::Carried(Kind::Load(Side::Data, Width::Double, Indexing::Indexed)),
-        4,
-    ),
+    (Carried(Load(Data, Word, Direct)), 4),
+    (Carried(Load(Data, Word, Indexed)), 4),
+    (Carried(Load(Data, Double, Direct)), 4),
+    (Carried(Load(Data, Double, Indexed)), 4),
     EMPTY,
     EMPTY,
     EMPTY,
     EMPTY,
-    (
-        Opcode::Carried(Kind::Laddr(Side::Data, Indexing::Direct)),
-        4,
-    ),
-    (
-        Opcode::Carried(Kind::Laddr(Side::Data, Indexing::Indexed)),
-        4,
-    ),
+    (Carried(Laddr(Data, Direct)), 4),
+    (Carried(Laddr(Data, Indexed)), 4),
     // d0
-    (
-        Opcode::Carried(Kind::Load(Side::Data, Width::Byte, Indexing::Direct)),
-        6,
-    ),
-    (
-        Opcode::Carried(Kind::Load(Side::Data, Width::Byte, Indexing::Indexed)),
-        6,
-    ),
-    (
-        Opcode::Carried(Kind::Load(Side::Data, Width::Halfword, Indexing::Direct)),
-        6,
-    ),
-    (
-        Opcode::Carried(Kind::Load(Side::Data, Width::Halfword, Indexing::Indexed)),
-        6,
-    ),
+    (Carried(Load(Data, Byte, Direct)), 6),
+    (Carried(Load(Data, Byte, Indexed)), 6),
+    (Carried(Load(Data, Halfword, Direct)), 6),
+    (Carried(Load(Data, Halfword, Indexed)), 6),
     EMPTY,
     EMPTY,
-    (
-        Opcode::Carried(Kind::Load(Side::Data, Width::Word, Indexing::Direct)),
-        6,
-    ),
-    (
-        Opcode::Carried(Kind::Load(Side::Data, Width::Word, Indexing::Indexed)),
-        6,
-    ),
-    (
-        Opcode::Carried(Kind::Load(Side::Data, Width::Double, Indexing::Direct)),
-        6,
-    ),
-    (
-        Opcode::Carried(Kind::Load(Side::Data, Width::Double, Indexing::Indexed)),
-        6,
-    ),
+    (Carried(Load(Data, Word, Direct)), 6),
+    (Carried(Load(Data, Word, Indexed)), 6),
+    (Carried(Load(Data, Double, Direct)), 6),
+    (Carried(Load(Data, Double, Indexed)), 6),
     EMPTY,
     EMPTY,
     EMPTY,
     EMPTY,
-    (
-        Opcode::Carried(Kind::Laddr(Side::Data, Indexing::Direct)),
-        6,
-    ),
-    (
-        Opcode::Carried(Kind::Laddr(Side::Data, Indexing::Indexed)),
-        6,
-    ),
+    (Carried(Laddr(Data, Direct)), 6),
+    (Carried(Laddr(Data, Indexed)), 6),
     // e0
-    (
-        Opcode::Carried(Kind::Load(Side::Code, Width::Byte, Indexing::Direct)),
-        4,
-    ),
-    (
-        Opcode::Carried(Kind::Load(Side::Code, Width::Byte, Indexing::Indexed)),
-        4,
-    ),
-    (
-        Opcode::Carried(Kind::Load(Side::Code, Width::Halfword, Indexing::Direct)),
-        4,
-    ),
-    (
-        Opcode::Carried(Kind::Load(Side::Code, Width::Halfword, Indexing::Indexed)),
-        4,
-    ),
+    (Carried(Load(Code, Byte, Direct)), 4),
+    (Carried(Load(Code, Byte, Indexed)), 4),
+    (Carried(Load(Code, Halfword, Direct)), 4),
+    (Carried(Load(Code, Halfword, Indexed)), 4),
     EMPTY,
     EMPTY,
-    (
-        Opcode::Carried(Kind::Load(Side::Code, Width::Word, Indexing::Direct)),
-        4,
-    ),
-    (
-        Opcode::Carried(Kind::Load(Side::Code, Width::Word, Indexing::Indexed)),
-        4,
-    ),
-    (
-        Opcode::Carried(Kind::Load(Side::Code, Width::Double, Indexing::Direct)),
-        4,
-    ),
-    (
-        Opcode::Carried(Kind::Load(Side::Code, Width::Double, Indexing::Indexed)),
-        4,
-    ),
+    (Carried(Load(Code, Word, Direct)), 4),
+    (Carried(Load(Code, Word, Indexed)), 4),
+    (Carried(Load(Code, Double, Direct)), 4),
+    (Carried(Load(Code, Double, Indexed)), 4),
     EMPTY,
     EMPTY,
     EMPTY,
     EMPTY,
-    (
-        Opcode::Carried(Kind::Laddr(Side::Code, Indexing::Direct)),
-        4,
-    ),
-    (
-        Opcode::Carried(Kind::Laddr(Side::Code, Indexing::Indexed)),
-        4,
-    ),
+    (Carried(Laddr(Code, Direct)), 4),
+    (Carried(Laddr(Code, Indexed)), 4),
     // f0
-    (
-        Opcode::Carried(Kind::Load(Side::Code, Width::Byte, Indexing::Direct)),
-        6,
-    ),
-    (
-        Opcode::Carried(Kind::Load(Side::Code, Width::Byte, Indexing::Indexed)),
-        6,
-    ),
-    (
-        Opcode::Carried(Kind::Load(Side::Code, Width::Halfword, Indexing::Direct)),
-        6,
-    ),
-    (
-        Opcode::Carried(Kind::Load(Side::Code, Width::Halfword, Indexing::Indexed)),
-        6,
-    ),
+    (Carried(Load(Code, Byte, Direct)), 6),
+    (Carried(Load(Code, Byte, Indexed)), 6),
+    (Carried(Load(Code, Halfword, Direct)), 6),
+    (Carried(Load(Code, Halfword, Indexed)), 6),
     EMPTY,
     EMPTY,
-    (
-        Opcode::Carried(Kind::Load(Side::Code, Width::Word, Indexing::Direct)),
-        6,
-    ),
-    (
-        Opcode::Carried(Kind::Load(Side::Code, Width::Word, Indexing::Indexed)),
-        6,
-    ),
-    (
-        Opcode::Carried(Kind::Load(Side::Code, Width::Double, Indexing::Direct)),
-        6,
-    ),
-    (
-        Opcode::Carried(Kind::Load(Side::Code, Width::Double, Indexing::Indexed)),
-        6,
-    ),
+    (Carried(Load(Code, Word, Direct)), 6),
+    (Carried(Load(Code, Word, Indexed)), 6),
+    (Carried(Load(Code, Double, Direct)), 6),
+    (Carried(Load(Code, Double, Indexed)), 6),
     EMPTY,
     EMPTY,
     EMPTY,
     EMPTY,
-    (
-        Opcode::Carried(Kind::Laddr(Side::Code, Indexing::Direct)),
-        6,
-    ),
-    (
-        Opcode::Carried(Kind::Laddr(Side::Code, Indexing::Indexed)),
-        6,
-    ),
+    (Carried(Laddr(Code, Direct)), 6),
+    (Carried(Laddr(Code, Indexed)), 6),
 ];
 
 // The row of an opcode.

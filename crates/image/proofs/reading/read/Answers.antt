@@ -25,7 +25,7 @@ returns-in-Break-rest c =
     let later = drop (i + 1) order in
     rw (p .1, p .2) (walked-fails (c .loop-section .inv) _ later (vec-items (c .take-section .last .out)) (c .in-Break-rest .field-0 .0)
     (sym (take-append-drop (i + 1) order) ∙ ap (λ ss. ss ++ later) (take-more order i Admissions (c .loop-section-test .taken)))
-    (c .if-size-gt-LIMIT .left) (c .in-Break-rest .ensures tt))
+    (omega (arith, c .if-size-gt-LIMIT .left)) (c .in-Break-rest .ensures tt))
 
 pub loop-section-again : need.loop-section-again
 loop-section-again c =
@@ -33,16 +33,16 @@ loop-section-again c =
     walked-more (c .loop-section .inv) _ _ (got .0) _ _ (take-more order _ Admissions (c .loop-section-test .taken)) (got .1) (got .2) (got .3)
 
 pub sub-result : need.sub-result
-sub-result c = walked-fits (c .loop-section .inv)
+sub-result c = omega (arith, walked-fits (c .loop-section .inv))
 
 pub returns-then-not-is-empty : need.returns-then-not-is-empty
 returns-then-not-is-empty c = (
   λ over. absurd (omega (arith, c .if-size-gt-LIMIT .left)),
-  λ _. walked-rest (c .loop-section .inv) (take-all _ order (c .loop-section-test .left)) (omega (arith, false-eqb _ 0 (c .if-not-is-empty .ensures tt))),
+  λ _. walked-rest (c .loop-section .inv) (take-all _ order (c .loop-section-test .left)) _ (omega arith) (omega (arith, false-eqb _ 0 (c .if-not-is-empty .ensures tt))),
 )
 
 pub returns : need.returns
 returns c = (
-  c .if-size-gt-LIMIT .left,
+  omega (arith, c .if-size-gt-LIMIT .left),
   walked-reads (c .loop-section .inv) (take-all _ order (c .loop-section-test .left)) (true-eqb _ 0 (c .if-not-is-empty .ensures tt)),
 )

@@ -1,5 +1,5 @@
-use mathlib.Core.List.{[], _∷_}
-use lib.ListN.{getD}
+use Rattle.image.specs.declared.records.Record.the-variants.{Admit}
+use Rattle.image.specs.Format.{written}
 use Rattle.image.proofs.Kept.{added}
 use Rattle.image.proofs.writing.admission.Needs as need
 
@@ -8,4 +8,4 @@ returns c =
     let p = c .two-bytes .ensures in
     let first = c .two-bytes-2 .ensures in
     let count = c .two-bytes-3 .ensures in
-    added _ _ _ _ _ (c .extend-from-slice .ensures .items) (λ i. getD (p i) 0 0 ∷ getD (p i) 1 0 ∷ getD (first i) 0 0 ∷ getD (first i) 1 0 ∷ getD (count i) 0 0 ∷ getD (count i) 1 0 ∷ [])
+    added _ _ _ _ (written (Admit (c .args .admission))) (c .extend-from-slice .ensures .items) (simp (p, first, count))

@@ -1,6 +1,6 @@
 use mathlib.Core.Path.{ap}
-use mathlib.Core.List.{[], _∷_, _++_}
-use lib.ListN.{length, getD}
+use mathlib.Core.List.{_++_}
+use lib.ListN.{length}
 use Rattle.std.proofs.Told.{chosen}
 use Rattle.std.specs.Results.{isOk}
 use Rattle.image.specs.Format.{half}
@@ -16,5 +16,5 @@ returns c =
     let it = c .args .fill in
     let head = chosen _ _ _ _ (c .extend-from-slice .ensures .items) (ap isOk (c .in-Continue-extend-from-slice .was tt)) in
     added-after _ _ _ _ _ (half (it .p) ++ half (it .k) ++ half (it .offset) ++ half (length (it .bytes .now))) _ head
-    (λ i. getD (p i) 0 0 ∷ getD (p i) 1 0 ∷ getD (k i) 0 0 ∷ getD (k i) 1 0 ∷ getD (offset i) 0 0 ∷ getD (offset i) 1 0 ∷ getD (n i) 0 0 ∷ getD (n i) 1 0 ∷ [])
+    (simp (p, k, offset, n))
     (c .extend-from-slice-2 .ensures .items)

@@ -1,5 +1,5 @@
-use mathlib.Core.List.{[], _∷_}
-use lib.ListN.{getD}
+use Rattle.image.specs.declared.records.Record.the-variants.{Put}
+use Rattle.image.specs.Format.{written}
 use Rattle.image.proofs.Kept.{added}
 use Rattle.image.proofs.writing.put.Needs as need
 
@@ -8,4 +8,4 @@ returns c =
     let p = c .two-bytes .ensures in
     let r = c .two-bytes-2 .ensures in
     let value = c .four-bytes .ensures in
-    added _ _ _ _ _ (c .extend-from-slice .ensures .items) (λ i. getD (p i) 0 0 ∷ getD (p i) 1 0 ∷ getD (r i) 0 0 ∷ getD (r i) 1 0 ∷ getD (value i) 0 0 ∷ getD (value i) 1 0 ∷ getD (value i) 2 0 ∷ getD (value i) 3 0 ∷ [])
+    added _ _ _ _ (written (Put (c .args .put))) (c .extend-from-slice .ensures .items) (simp (p, r, value))

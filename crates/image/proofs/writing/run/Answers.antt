@@ -1,5 +1,5 @@
-use mathlib.Core.List.{[], _∷_}
-use lib.ListN.{getD}
+use Rattle.image.specs.declared.records.Record.the-variants.{Run}
+use Rattle.image.specs.Format.{written}
 use Rattle.image.proofs.Kept.{added}
 use Rattle.image.proofs.writing.run.Needs as need
 
@@ -7,4 +7,4 @@ pub returns : need.returns
 returns c =
     let p = c .two-bytes .ensures in
     let n = c .four-bytes .ensures in
-    added _ _ _ _ _ (c .extend-from-slice .ensures .items) (λ i. getD (p i) 0 0 ∷ getD (p i) 1 0 ∷ getD (n i) 0 0 ∷ getD (n i) 1 0 ∷ getD (n i) 2 0 ∷ getD (n i) 3 0 ∷ [])
+    added _ _ _ _ (written (Run (c .args .run))) (c .extend-from-slice .ensures .items) (simp (p, n))
