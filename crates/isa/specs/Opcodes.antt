@@ -4,6 +4,7 @@
 -- |------------|-------------------------------------------------------------------|
 -- | `plus`     | how far an immediate form stands behind the register form         |
 -- | `column`   | the column of a relation among tests and branches                 |
+-- | `beside`   | how far an indexed form stands behind the direct one              |
 -- | `place`    | the column of an operand's width and indexing                     |
 -- | `opcodeOf` | the opcode of a kind, in its short form where it has two, or none |
 use Prim.Native.Nat.{ℕ, _+_}
@@ -33,15 +34,15 @@ column LessOrEqual = 8
 column GreaterOrEqual = 9
 column NotEqual = 10
 
+abbrev pub beside : Indexing → ℕ
+beside Direct = 0
+beside Indexed = 1
+
 abbrev pub place : Width → Indexing → ℕ
-place Byte Direct = 0
-place Byte Indexed = 1
-place Halfword Direct = 2
-place Halfword Indexed = 3
-place Word Direct = 6
-place Word Indexed = 7
-place Double Direct = 8
-place Double Indexed = 9
+place Byte i = beside i
+place Halfword i = 2 + beside i
+place Word i = 6 + beside i
+place Double i = 8 + beside i
 
 abbrev pub opcodeOf : Kind → Option ℕ
 opcodeOf (Move s) = Some (0x01 + plus s 16)
@@ -89,7 +90,5 @@ opcodeOf Loop = Some 0x87
 opcodeOf (Store w i) = Some (0xa0 + place w i)
 opcodeOf (Load Data w i) = Some (0xc0 + place w i)
 opcodeOf (Load Code w i) = Some (0xe0 + place w i)
-opcodeOf (Laddr Data Direct) = Some 0xce
-opcodeOf (Laddr Data Indexed) = Some 0xcf
-opcodeOf (Laddr Code Direct) = Some 0xee
-opcodeOf (Laddr Code Indexed) = Some 0xef
+opcodeOf (Laddr Data i) = Some (0xce + beside i)
+opcodeOf (Laddr Code i) = Some (0xee + beside i)

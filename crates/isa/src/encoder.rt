@@ -1,7 +1,7 @@
 // From an instruction to its bytes.
 ghost use mathlib.Core.Path.{_≡_};
 ghost use Rattle.isa.specs.Encoded.{Encodes, bytesOf};
-ghost use Rattle.isa.specs.Opcodes.{column, opcodeOf, place, plus};
+ghost use Rattle.isa.specs.Opcodes.{beside, column, opcodeOf, place, plus};
 use super::decoder::extend;
 use super::encoding::Encoding;
 use super::kinds::Indexing;
@@ -36,19 +36,25 @@ fn relation_column(r: Relation) -> u8
     }
 }
 
-// The column of an operand's width among the loads and stores, the indexed form next to the direct one.
+// The indexed form stands next to the direct one.
+fn indexed(i: Indexing) -> u8
+    ensures { λ c. ⌜ c ≡ beside i ⌝ }
+{
+    match i {
+        Indexing::Direct => 0,
+        Indexing::Indexed => 1,
+    }
+}
+
+// The column of an operand's width among the loads and stores.
 fn width_column(w: Width, i: Indexing) -> u8
     ensures { λ c. ⌜ c ≡ place w i ⌝ }
 {
-    let column = match w {
-        Width::Byte => 0,
-        Width::Halfword => 2,
-        Width::Word => 6,
-        Width::Double => 8,
-    };
-    match i {
-        Indexing::Direct => column,
-        Indexing::Indexed => column + 1,
+    match w {
+        Width::Byte => indexed(i),
+        Width::Halfword => 2 + indexed(i),
+        Width::Word => 6 + indexed(i),
+        Width::Double => 8 + indexed(i),
     }
 }
 
@@ -97,10 +103,8 @@ fn opcode(kind: Kind) -> Option<u8>
         Kind::Store(w, i) => Some(0xa0 + width_column(w, i)),
         Kind::Load(Side::Data, w, i) => Some(0xc0 + width_column(w, i)),
         Kind::Load(Side::Code, w, i) => Some(0xe0 + width_column(w, i)),
-        Kind::Laddr(Side::Data, Indexing::Direct) => Some(0xce),
-        Kind::Laddr(Side::Data, Indexing::Indexed) => Some(0xcf),
-        Kind::Laddr(Side::Code, Indexing::Direct) => Some(0xee),
-        Kind::Laddr(Side::Code, Indexing::Indexed) => Some(0xef),
+        Kind::Laddr(Side::Data, i) => Some(0xce + indexed(i)),
+        Kind::Laddr(Side::Code, i) => Some(0xee + indexed(i)),
     }
 }
 

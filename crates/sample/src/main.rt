@@ -84,6 +84,16 @@ fn fired(heap: Global) -> Result<Vec<u8>, AllocError> {
     Ok(bytes)
 }
 
+// Bytes for frame k of process 0.
+fn fill(k: u16, offset: u16, bytes: &[u8]) -> Record<'_> {
+    Record::Fill(Fill {
+        p: 0,
+        k,
+        offset,
+        bytes,
+    })
+}
+
 // The image: a code page, a data page with the shrinkage and the fired dimensions, and one run.
 fn image<'a>(
     heap: Global,
@@ -91,48 +101,38 @@ fn image<'a>(
     shrinkage: &'a [u8],
     fired: &'a [u8],
 ) -> Option<Vec<u8>> {
+    let both = Admission {
+        p: 0,
+        first: 0,
+        count: 2,
+    };
+    let code_page = Grant {
+        p: 0,
+        side: Side::Code,
+        page: 0,
+        k: 0,
+    };
+    let data_page = Grant {
+        p: 0,
+        side: Side::Data,
+        page: 0,
+        k: 1,
+    };
+    let traps = Put {
+        p: 0,
+        r: 17,
+        value: TRAPS,
+    };
+    let run = Run { p: 0, n: 1_000 };
     let records = [
-        Record::Admit(Admission {
-            p: 0,
-            first: 0,
-            count: 2,
-        }),
-        Record::Grant(Grant {
-            p: 0,
-            side: Side::Code,
-            page: 0,
-            k: 0,
-        }),
-        Record::Grant(Grant {
-            p: 0,
-            side: Side::Data,
-            page: 0,
-            k: 1,
-        }),
-        Record::Fill(Fill {
-            p: 0,
-            k: 0,
-            offset: 0,
-            bytes: code,
-        }),
-        Record::Fill(Fill {
-            p: 0,
-            k: 1,
-            offset: 0,
-            bytes: shrinkage,
-        }),
-        Record::Fill(Fill {
-            p: 0,
-            k: 1,
-            offset: 16,
-            bytes: fired,
-        }),
-        Record::Put(Put {
-            p: 0,
-            r: 17,
-            value: TRAPS,
-        }),
-        Record::Run(Run { p: 0, n: 1_000 }),
+        Record::Admit(both),
+        Record::Grant(code_page),
+        Record::Grant(data_page),
+        fill(0, 0, code),
+        fill(1, 0, shrinkage),
+        fill(1, 16, fired),
+        Record::Put(traps),
+        Record::Run(run),
     ];
     write(heap, &records).ok()
 }

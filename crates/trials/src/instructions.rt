@@ -205,78 +205,53 @@ fn a_wrong_length_is_no_instruction() -> Result<(), Fail> {
     )
 }
 
-// No bytes spell these.
+// Whether some bytes spell the instruction.
+fn fits(kind: Kind, size: u8, x: u8, y: u8, displacement: u32) -> bool {
+    let instruction = Instruction {
+        kind,
+        size,
+        x,
+        y,
+        displacement,
+    };
+    instruction.encode().is_some()
+}
+
 #[test]
-fn what_does_not_fit_is_not_encoded() -> Result<(), Fail> {
-    let add = Instruction {
-        kind: Kind::Add(Second::Register),
-        size: 2,
-        x: 1,
-        y: 2,
-        displacement: 0,
-    };
-    check(add.encode().is_some())?;
-    check(Instruction { x: 16, ..add }.encode().is_none())?;
-    check(Instruction { y: 16, ..add }.encode().is_none())?;
-    check(Instruction { size: 4, ..add }.encode().is_none())?;
+fn fields_and_size_fit_the_format() -> Result<(), Fail> {
+    let add = Kind::Add(Second::Register);
+    check(fits(add, 2, 15, 15, 0))?;
+    check(!fits(add, 2, 16, 2, 0))?;
+    check(!fits(add, 2, 1, 16, 0))?;
+    check(!fits(add, 4, 1, 2, 0))?;
+    check(!fits(add, 2, 1, 2, 1))
+}
+
+// A short displacement has the sign of 16 bits.
+#[test]
+fn a_displacement_fits_its_size() -> Result<(), Fail> {
+    let load = Kind::Load(Side::Data, Width::Word, Indexing::Direct);
+    check(fits(load, 4, 1, 2, 0x7fff))?;
+    check(!fits(load, 4, 1, 2, 0x8000))?;
+    check(!fits(load, 4, 1, 2, 0xffff_7fff))?;
+    check(fits(load, 4, 1, 2, 0xffff_8000))?;
+    check(fits(load, 6, 1, 2, 0x8000))?;
+    check(!fits(load, 5, 1, 2, 0))?;
+    check(!fits(load, 2, 1, 2, 0))
+}
+
+// Two relations have no register form of the branch.
+#[test]
+fn no_bytes_branch_on_less_with_registers() -> Result<(), Fail> {
+    check(!fits(Kind::Branch(Relation::Less, Second::Register), 4, 1, 2, 0))?;
     check(
-        Instruction {
-            displacement: 1,
-            ..add
-        }
-            .encode()
-            .is_none(),
+        !fits(
+            Kind::Branch(Relation::GreaterOrEqual, Second::Register),
+            6,
+            1,
+            2,
+            0,
+        ),
     )?;
-    let load = Instruction {
-        kind: Kind::Load(Side::Data, Width::Word, Indexing::Direct),
-        size: 4,
-        x: 1,
-        y: 2,
-        displacement: 0x7fff,
-    };
-    check(load.encode().is_some())?;
-    check(
-        Instruction {
-            displacement: 0x8000,
-            ..load
-        }
-            .encode()
-            .is_none(),
-    )?;
-    check(
-        Instruction {
-            displacement: 0xffff_8000,
-            ..load
-        }
-            .encode()
-            .is_some(),
-    )?;
-    check(
-        Instruction {
-            size: 6,
-            displacement: 0x8000,
-            ..load
-        }
-            .encode()
-            .is_some(),
-    )?;
-    check(
-        Instruction {
-            size: 2,
-            displacement: 0,
-            ..load
-        }
-            .encode()
-            .is_none(),
-    )?;
-    let less = Kind::Branch(Relation::Less, Second::Register);
-    check(
-        Instruction {
-            kind: less,
-            size: 4,
-            ..add
-        }
-            .encode()
-            .is_none(),
-    )
+    check(fits(Kind::Branch(Relation::Less, Second::Field), 4, 1, 2, 0))
 }
