@@ -1,4 +1,4 @@
-// The text of an instruction: its mnemonic and its operands, as the manual writes them.
+// The text of an instruction: its mnemonic and its operands, as docs/processor.md writes them.
 ghost use Prim.Native.Nat.{_+_, _*_};
 ghost use mathlib.Core.Path.{_≡_};
 ghost use Rattle.disasm.specs.Text.{address, bySecond, byWidth, distance, mnemonic, operand, sign, text};

@@ -1,4 +1,4 @@
-// What an opcode names, in the manual's terms.
+// What an opcode names: kinds of instruction, and what their fields stand for.
 
 // The segment that an address lies in.
 #[derive(Clone, Copy, PartialEq, Eq)]
