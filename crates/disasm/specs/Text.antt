@@ -2,6 +2,8 @@
 --
 -- | word       | what it is                                            |
 -- |------------|-------------------------------------------------------|
+-- | `bySecond` | one text for a register, another for a field          |
+-- | `byWidth`  | one text for each width                               |
 -- | `mnemonic` | the name of a kind                                    |
 -- | `sign`     | a relation                                            |
 -- | `operand`  | a second operand: a register or a number              |

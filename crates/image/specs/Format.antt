@@ -5,6 +5,7 @@
 -- written      the bytes of a record
 -- sectionOf    the section that a record belongs to
 -- order        the sections, in their order
+-- number       the place of a section in that order
 -- among        those records of a list that belong to a section
 -- sections     the five sections of a list of records
 -- Ordered      the list has its records in the order of the sections

@@ -14,6 +14,7 @@
 -- Reads      the bytes are the image of one list of records, and of no other
 -- Refuses    the bytes are no image, and the offset is the farthest that they reach
 -- Fails      what an error says of the bytes
+-- refusal    number and value of each case of an error; want of memory is no refusal, and has 0
 use mathlib.Core.Path.{_≡_}
 use mathlib.Core.List.{List, [], _∷_, _++_, map}
 use Prim.Native.Nat.{ℕ, _+_, _≤_, _<_}
@@ -86,6 +87,10 @@ pub record Reads (bs : List ℕ) (items : List Placed) : Type 0 where
 pub record Refuses (bs : List ℕ) (o : ℕ) : Type 0 where
   pub far : Farthest Image bs o
   pub none : (rs : List Record) → Ordered rs → image rs ≡ bs → ⊥
+
+abbrev pub refusal : ReadError → ℕ × ℕ
+refusal (Unreadable o) = (16, o)
+refusal Memory = (0, 0)
 
 abbrev pub Fails : List ℕ → ReadError → Type 0
 Fails bs (Unreadable o) = (16384 < length bs → o ≡ 16384) × (length bs ≤ 16384 → Refuses bs o)

@@ -7,8 +7,8 @@ use std::alloc::Refused;
 
 #[derive(Clone, Copy, PartialEq, Eq, Debug)]
 pub enum ReadError {
-    // The offset of the first count or record that is not whole, or of the first byte left over;
-    // of an image that is too long, its limit.
+    // Where reading stopped: the start of the part that cannot be completed, or of what follows the last part;
+    // `LIMIT` for an image that is too long.
     Unreadable(usize),
     Memory,
 }

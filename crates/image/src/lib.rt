@@ -24,6 +24,7 @@ pub use records::Grant;
 pub use records::LIMIT;
 pub use records::Placed;
 pub use records::Put;
+pub use records::REFUSAL;
 pub use records::Record;
 pub use records::Run;
 pub use records::Section;

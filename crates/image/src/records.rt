@@ -8,6 +8,9 @@ use isa::Side;
 // An image has at most this many bytes.
 pub const LIMIT: usize = 16_384;
 
+// The number of the refusal of an image that cannot be read.
+pub const REFUSAL: u8 = 16;
+
 // Process p comes in, with `count` frames from frame `first` on.
 #[derive(Clone, Copy)]
 pub struct Admission {

@@ -5,6 +5,7 @@
 -- | `extended`       | a 16-bit number, sign extended to a word           |
 -- | `displacementIn` | the displacement in the bytes after the fields     |
 -- | `instruction`    | the instruction of a kind that bytes are           |
+-- | `decodedAs`      | the same where the cell of the opcode is known     |
 -- | `decoded`        | what bytes are: a carried instruction, or why none |
 use Prim.Native.Nat.{ℕ, _+_, _*_, _/_, _%_}
 use mathlib.Core.Bool.{cond}

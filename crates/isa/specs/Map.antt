@@ -4,6 +4,7 @@
 -- |------------|-----------------------------------------------------|
 -- | `rows`     | the sixteen rows of the map                         |
 -- | `opcodeAt` | the cell of an opcode                               |
+-- | `lengthOf` | how many bytes a cell at an opcode takes             |
 -- | `lengthAt` | how many bytes an opcode takes, 0 where it is empty |
 -- | `Ruled`    | the length and format rule of a row                 |
 use Prim.Native.Nat.{ℕ, _/_, _%_, _<_}

@@ -1,7 +1,7 @@
 // The bytes of an encoded instruction.
 ghost use Prim.Native.Nat.{_≤_};
 
-// Two, four or six bytes; what stands behind them is 0.
+// The first `size` bytes are the encoding; the rest has no meaning.
 #[derive(Clone, Copy)]
 pub struct Encoding {
     pub bytes: [u8; 6],

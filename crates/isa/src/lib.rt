@@ -1,4 +1,4 @@
-// The instructions of the Ridge 32: the opcode table, decoding, encoding and text.
+// The instructions of the Ridge 32: the opcode table, decoding and encoding.
 mod decoder;
 mod encoder;
 mod encoding;

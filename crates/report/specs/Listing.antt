@@ -4,12 +4,14 @@
 -- |--------------|---------------------------------------------------------------------------|
 -- | `line`       | a text with the end of a line                                             |
 -- | `codeLines`  | the lines of some parts                                                   |
+-- | `onCode`     | whether a side is the code side                                           |
 -- | `grantsCode` | whether a record grants a frame of a process to its code side             |
 -- | `anyGrants`  | whether one of some records does                                          |
 -- | `CodeOf`     | the lines of the instructions of a record: of a fill into a code frame    |
 -- | `Body`       | the lines of some records                                                 |
 -- | `countOf`    | how many records belong to a section                                      |
 -- | `totalOf`    | the last line: how many records each section has                          |
+-- | `badText`    | the line of an image that is refused: number and offset                   |
 -- | `Lists`      | what a listing is: of records, or of an image that is refused             |
 use Prim.Native.Nat.{ℕ, _+_, _≤_}
 use mathlib.Core.Bool.{Bool, true, false, cond}
@@ -22,7 +24,7 @@ use lib.ListN.{length}
 use Rattle.std.specs.Orderings.{When}
 use Rattle.std.specs.Written.{decimal}
 use Rattle.image.specs.Format.{number, sectionOf}
-use Rattle.image.specs.Reading.{Fails, Reads}
+use Rattle.image.specs.Reading.{Fails, Reads, refusal}
 use Rattle.image.specs.declared.errors.ReadError.the-variants.{Unreadable}
 use Rattle.image.specs.declared.records.Placed.{Placed}
 use Rattle.image.specs.declared.records.Record.{Record}
@@ -81,9 +83,12 @@ countOf s (x ∷ xs) = cond (eqb (number (sectionOf (x .«record»))) (number s)
 abbrev pub totalOf : List Placed → List ℕ
 totalOf xs = totalText (countOf Admissions xs) (countOf Grants xs) (countOf Fills xs) (countOf Puts xs) (countOf Runs xs)
 
+abbrev pub badText : ℕ × ℕ → List ℕ
+badText r = codes "bad " ++ (decimal (r .0) ++ (codes " " ++ decimal (r .1)))
+
 -- the listing of an image that is read, and the one line of an image that is refused
 abbrev pub Lists : List ℕ → List ℕ → Type 0
 Lists bs t =
     ((xs : List Placed) × (length bs ≤ 16384) × Reads bs xs
     × (body : List ℕ) × Body xs xs body × (t ≡ body ++ line (totalOf xs)))
-    ⊎ ((o : ℕ) × Fails bs (Unreadable o) × (t ≡ line (codes "bad 16 " ++ decimal o)))
+    ⊎ ((o : ℕ) × Fails bs (Unreadable o) × (t ≡ line (badText (refusal (Unreadable o)))))

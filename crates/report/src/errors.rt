@@ -1,20 +1,13 @@
 // What can go wrong in writing a listing.
 use std::alloc::AllocError;
-use std::alloc::Refused;
 use std::fmt;
 
 // There is no memory for the listing.
-#[derive(Clone, Copy, PartialEq, Eq, Debug)]
+#[derive(Clone, Copy)]
 pub struct OutOfMemory;
 
 pub impl From<AllocError> for OutOfMemory as OutOfMemoryFromAlloc {
     fn from(_e: AllocError) -> OutOfMemory {
-        OutOfMemory
-    }
-}
-
-pub impl<T: Drop> From<Refused<T>> for OutOfMemory as OutOfMemoryFromRefused {
-    fn from(_e: Refused<T>) -> OutOfMemory {
         OutOfMemory
     }
 }

@@ -2,11 +2,11 @@
 ghost use mathlib.Core.List.{List, _++_};
 ghost use mathlib.Core.Path.{_≡_};
 ghost use Prim.Native.Nat.{ℕ};
-ghost use Rattle.image.specs.declared.records.Placed.{Placed as PlacedRecord};
+ghost use Rattle.image.specs.Reading.{refusal};
+ghost use Rattle.image.specs.declared.errors.ReadError.the-variants.{Unreadable as UnreadableAt};
 ghost use Rattle.report.specs.Lines.{recordText};
-ghost use Rattle.report.specs.Listing.{Body, CodeOf, Lists, anyGrants, codeLines, countOf, grantsCode, line, totalOf};
+ghost use Rattle.report.specs.Listing.{Body, CodeOf, Lists, anyGrants, badText, codeLines, countOf, grantsCode, line, totalOf};
 ghost use Rattle.report.specs.Parts.{Covers};
-ghost use Rattle.report.specs.declared.errors.OutOfMemory.{OutOfMemory as Lost};
 ghost use Rattle.report.specs.declared.parts.Part.{Part as CodePart};
 ghost use Rattle.std.specs.Of.String.{string-bytes};
 ghost use Rattle.std.specs.Vec.{made};
@@ -21,6 +21,7 @@ use super::lines::TotalLine;
 use super::lines::TotalLineDisplay;
 use super::parts::parts;
 use image::Placed;
+use image::REFUSAL;
 use image::ReadError;
 use image::Record;
 use image::Section;
@@ -119,6 +120,14 @@ fn list_total(out: &mut String, all: &[Placed]) -> Result<(), OutOfMemory>
     Ok(())
 }
 
+// Appends the line of an image that is refused at an offset.
+fn list_refusal(out: &mut String, offset: usize) -> Result<(), OutOfMemory>
+    ensures { λ r. ⌜ made r (λ _. string-bytes (now (out .exit)) ≡ string-bytes (now (out .entry)) ++ line (badText (refusal (UnreadableAt offset)))) ⌝ }
+{
+    writeln!(out, "bad {REFUSAL} {offset}")?;
+    Ok(())
+}
+
 // The listing of an image: a line for each record with the instructions that it fills in, and a total;
 // of an image that cannot be read, one line with the offset.
 pub fn list(heap: Global, bytes: &[u8]) -> Result<String, OutOfMemory>
@@ -130,7 +139,7 @@ pub fn list(heap: Global, bytes: &[u8]) -> Result<String, OutOfMemory>
             list_records(&mut out, heap, &records)?;
             list_total(&mut out, &records)?;
         }
-        Err(ReadError::Unreadable(offset)) => writeln!(out, "bad 16 {offset}")?,
+        Err(ReadError::Unreadable(offset)) => list_refusal(&mut out, offset)?,
         Err(ReadError::Memory) => return Err(OutOfMemory),
     }
     Ok(out)

@@ -56,7 +56,8 @@ fn first(address: usize, bytes: &[u8]) -> (usize, Content)
     }
 }
 
-// The same where a carried opcode of that size stands at an even address, as 0.
+// The same where a carried opcode of that size stands at an even address; the contract takes 0 for it,
+// since only the parity counts.
 fn carried(size: usize, bytes: &[u8]) -> (usize, Content)
     requires long { ⌜ 2 ≤ length (now bytes) ⌝ }
     requires cell { ⌜ ((k : Kind) × (opcodeAt (getD (now bytes) 0 0) ≡ CarriedOpcode k)) ⌝ }
@@ -68,6 +69,7 @@ fn carried(size: usize, bytes: &[u8]) -> (usize, Content)
     }
     match decode(&bytes[0..size]) {
         Ok(instruction) => (size, Content::Carried(instruction)),
+        // not reached: a carried opcode with all its bytes decodes
         Err(_) => (bytes.len(), Content::Cut),
     }
 }
