@@ -27,6 +27,8 @@ use Rattle.std.specs.declared.result.Result.{Result}
 use Rattle.std.specs.declared.result.Result.the-variants.{Ok, Err}
 use Rattle.image.specs.declared.errors.ReadError.{ReadError}
 use Rattle.image.specs.declared.errors.ReadError.the-variants.{Unreadable, Memory}
+use Rattle.image.specs.Keeping.{Stored}
+use Rattle.image.specs.declared.keeping.Kept.{Kept}
 use Rattle.image.specs.declared.records.Placed.{Placed}
 use Rattle.image.specs.declared.records.Record.{Record}
 use Rattle.image.specs.declared.records.Section.{Section}
@@ -72,10 +74,9 @@ pub record Stuck (L : List (List ℕ) → Type 0) (bs : List ℕ) (d : ℕ) : Ty
   pub far : Farthest L bs d
   pub none : (ps : List (List ℕ)) (rest : List ℕ) → L ps → bs ≡ flat ps ++ rest → ⊥
 
-abbrev pub Took : (List Record → Type 0) → (List Record → List (List ℕ)) → ℕ → ℕ → List ℕ → List Placed → List Placed → Result (RefT (List ℕ)) ReadError → Type 0
-Took P body lead start bs old new (Ok rest) = (rs : List Record) × P rs × (new ≡ old ++ places (start + lead) rs) × Accepts (Lists P body) bs (body rs) (rest .now)
-Took P body lead start bs old new (Err (Unreadable o)) = (d : ℕ) × (o ≡ start + d) × Stuck (Lists P body) bs d
-Took P body lead start bs old new (Err Memory) = Unit {0}
+abbrev pub Took : (List Record → Type 0) → (List Record → List (List ℕ)) → ℕ → ℕ → List ℕ → Kept → Kept → Result (RefT (List ℕ)) ℕ → Type 0
+Took P body lead start bs old new (Ok rest) = (rs : List Record) × P rs × Stored old new (places (start + lead) rs) × Accepts (Lists P body) bs (body rs) (rest .now)
+Took P body lead start bs old new (Err o) = (d : ℕ) × (o ≡ start + d) × Stuck (Lists P body) bs d
 
 pub record Reads (bs : List ℕ) (items : List Placed) : Type 0 where
   pub records : List Record
@@ -94,4 +95,4 @@ refusal Memory = (0, 0)
 
 abbrev pub Fails : List ℕ → ReadError → Type 0
 Fails bs (Unreadable o) = (16384 < length bs → o ≡ 16384) × (length bs ≤ 16384 → Refuses bs o)
-Fails bs Memory = length bs ≤ 16384
+Fails bs Memory = (length bs ≤ 16384) × (rs : List Record) × Ordered rs × (image rs ≡ bs)

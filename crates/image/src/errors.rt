@@ -1,9 +1,7 @@
 // Why an image is not read, and why a list of records is not written.
 ghost use mathlib.Core.Path.{_≡_};
-ghost use Rattle.image.specs.declared.errors.ReadError.{ReadError};
 ghost use Rattle.image.specs.declared.errors.WriteError.{WriteError};
 use std::alloc::AllocError;
-use std::alloc::Refused;
 
 #[derive(Clone, Copy, PartialEq, Eq, Debug)]
 pub enum ReadError {
@@ -26,22 +24,6 @@ pub enum WriteError {
     ImageTooLong,
     // No rule is broken, and there is no memory for the image.
     Memory,
-}
-
-pub impl From<AllocError> for ReadError as ReadErrorFromAlloc {
-    ghost converts = { λ _ r. r ≡ ReadError.Memory };
-
-    fn from(_e: AllocError) -> ReadError {
-        ReadError::Memory
-    }
-}
-
-pub impl<T: Drop> From<Refused<T>> for ReadError as ReadErrorFromRefused {
-    ghost converts = { λ _ r. r ≡ ReadError.Memory };
-
-    fn from(_e: Refused<T>) -> ReadError {
-        ReadError::Memory
-    }
 }
 
 pub impl From<AllocError> for WriteError as WriteErrorFromAlloc {

@@ -1,5 +1,6 @@
 // Start images: the bytes that set up a machine, read into records and written from them.
 mod errors;
+mod keeping;
 mod reading;
 mod records;
 mod rules;
@@ -9,8 +10,6 @@ mod writing;
 pub use errors::ReadError;
 pub use errors::ReadErrorDebug;
 pub use errors::ReadErrorEq;
-pub use errors::ReadErrorFromAlloc;
-pub use errors::ReadErrorFromRefused;
 pub use errors::ReadErrorPartialEq;
 pub use errors::WriteError;
 pub use errors::WriteErrorDebug;

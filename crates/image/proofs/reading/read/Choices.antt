@@ -1,8 +1,7 @@
 use lib.ListN.{take}
-use Rattle.std.specs.Of.Vec.{vec-items}
 use Rattle.image.specs.Format.{order}
 use Rattle.image.proofs.Turns.{Walked}
 use Rattle.image.proofs.reading.read.Given as given
 
 abbrev pub Inv-loop-section : given.InvT-loop-section
-Inv-loop-section l = Walked (take (l .section-index) order) (l .bytes) (vec-items (l .out)) (l .rest)
+Inv-loop-section l = Walked (take (l .section-index) order) (l .bytes) (l .out) (l .rest)

@@ -1,7 +1,4 @@
-use mathlib.Core.Path.{ap}
 use native.Mathlib.Omega.{arith}
-use Rattle.std.proofs.Told.{chosen}
-use Rattle.std.specs.Results.{isOk}
 use Rattle.image.proofs.Turns.{sofar-none, sofar-fits, sofar-more, sofar-stuck, sofar-all}
 use Rattle.image.proofs.reading.take_records.Needs as need
 
@@ -16,9 +13,8 @@ returns-in-rest c = sofar-stuck (c .loop .inv) _ _ (c .loop-test .taken) (c .in-
 
 pub loop-again : need.loop-again
 loop-again c =
-    let pushed = chosen _ _ _ _ (c .push .ensures .items) (ap isOk (c .in-Continue-push .was tt)) in
     let found = c .in-Some .ensures tt in
-    sofar-more (c .loop .inv) _ (c .in-Some .record) _ (c .in-Some .after .now) pushed (found .0) (found .1) (omega (arith, sofar-fits (c .loop .inv), c .pre))
+    sofar-more (c .loop .inv) _ (c .in-Some .record) _ (c .in-Some .after .now) (c .put .ensures) (found .0) (found .1) (omega (arith, sofar-fits (c .loop .inv), c .pre))
 
 pub returns : need.returns
 returns c = sofar-all (c .loop .inv) _ (omega arith)
