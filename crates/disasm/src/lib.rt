@@ -1,4 +1,6 @@
 // The text of an instruction: its mnemonic and its operands, as docs/processor.md writes them.
+#![tactic(auto)]
+
 ghost use Rattle.std.specs.Prelude.{◌≡◌, ◌+◌, ◌*◌, Some};
 ghost use Rattle.disasm.specs.Text.{address, by_second, by_width, distance, mnemonic, operand, sign, text};
 

@@ -127,12 +127,12 @@ module _ {ss : List Section} {bs rest : List ℕ} {out : Kept} (part : Walked ss
   whole = subst (λ x. Walked x bs out rest) over part
 
   pub walked_reads : length rest ≡ 0 → out.lost ≡ false → Reads bs (vec_items out.records)
-  walked_reads e kept = subst (Reads bs) (sym (whole.listed kept)) (reads bs whole.taken rest whole.own_val whole.all (nil_from_length rest e))
+  walked_reads e kept = subst (Reads bs) (sym (whole.listed kept)) (reads bs whole.taken rest whole.own whole.all (nil_from_length rest e))
 
   pub walked_lost : length rest ≡ 0 → length bs ≤ 16384 → Fails bs Memory
   walked_lost e within =
-      let r = reads bs whole.taken rest whole.own_val whole.all (nil_from_length rest e) in
+      let r = reads bs whole.taken rest whole.own whole.all (nil_from_length rest e) in
       (within, r.records, r.ordered, r.imaged)
 
   pub walked_rest : (o : ℕ) → o ≡ length bs - length rest → 0 < length rest → Refuses bs o
-  walked_rest o e more = subst (Refuses bs) (sym e) (refuses_rest bs whole.taken rest whole.own_val whole.all more)
+  walked_rest o e more = subst (Refuses bs) (sym e) (refuses_rest bs whole.taken rest whole.own whole.all more)

@@ -1,4 +1,6 @@
 // Start images: the bytes that set up a machine, read into records and written from them.
+#![tactic(auto)]
+
 mod errors;
 mod keeping;
 mod reading;

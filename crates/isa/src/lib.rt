@@ -1,4 +1,6 @@
 // The instructions of the Ridge 32: the opcode table, decoding and encoding.
+#![tactic(auto)]
+
 mod decoder;
 mod encoder;
 mod encoding;

@@ -1,4 +1,6 @@
 // Lists the start image on standard input: what it will do, record by record.
+#![tactic(auto)]
+
 use anyhow::anyhow;
 use image::LIMIT;
 use report::list;

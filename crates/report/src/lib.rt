@@ -1,4 +1,6 @@
 // What an image will do, as text: its records, and the instructions that it fills in.
+#![tactic(auto)]
+
 mod errors;
 mod lines;
 mod listing;

@@ -1,4 +1,6 @@
 // Writes the sample image to standard output: the shrinkage program of docs/shrinkage.md.
+#![tactic(auto)]
+
 use anyhow::anyhow;
 use image::{Admission, Fill, Grant, Put, Record, Run, write};
 use isa::{Indexing, Instruction, Kind, Second, Side, Width};

@@ -1,4 +1,6 @@
 // Works through a table of shrinkage figures with the words of the machine and prints each step.
+#![tactic(auto)]
+
 mod pattern;
 
 use pattern::{Fault, PARTS, Step, Working, work};

@@ -1,4 +1,6 @@
 // Tests of the libraries below, in a crate of their own so that each library is proved once.
+#![tactic(auto)]
+
 #[cfg(test)]
 mod arithmetic;
 #[cfg(test)]

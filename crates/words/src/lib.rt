@@ -1,4 +1,6 @@
 // The arithmetic of the instructions: total functions on words of 32 bits and pairs of 64.
+#![tactic(auto)]
+
 mod addresses;
 mod arithmetic;
 mod division;

@@ -5,11 +5,11 @@ use Rattle.image.proofs.reading.take_records.Goals as goal
 pub loop-init : goal.loop-init
 loop-init c = sofar_none _ _ _ _
 
-pub overflow-sub-offset : goal.overflow-sub-offset
-overflow-sub-offset c = omega (arith, sofar_fits c.loop.invariant, c.requires)
+pub overflow_sub-offset : goal.overflow_sub-offset
+overflow_sub-offset c = omega (arith, sofar_fits c.loop.invariant, c.requires)
 
-pub returns-in-default : goal.returns-in-default
-returns-in-default c = sofar_stuck c.loop.invariant _ _ c.loop-test.true c.in-default.ensures (omega (arith, sofar_fits c.loop.invariant, c.requires))
+pub returns-in_default : goal.returns-in_default
+returns-in_default c = sofar_stuck c.loop.invariant _ _ c.loop-test.true c.in_default.ensures (omega (arith, sofar_fits c.loop.invariant, c.requires))
 
 pub loop-preserved : goal.loop-preserved
 loop-preserved c =

@@ -9,7 +9,7 @@ use Rattle.image.specs.declared.records.Section.TheVariants.{Admissions}
 use Rattle.image.specs.Writing.{Short}
 use Rattle.image.proofs.Several.{blank}
 use Rattle.image.proofs.rules.fills_fit.Goals as goal
-use Rattle.image.proofs.rules.fills_fit.Goals.{in-Fill+else-fill-gt-LARGEST, in-default}
+use Rattle.image.proofs.rules.fills_fit.Goals.{in-Fill+else-fill-gt-LARGEST, in_default}
 
 -- what is no fill is short
 no_fill : (r : Record) → ((f : Filling) → r ≡ Fill f → ⊥) → Short r
@@ -27,7 +27,7 @@ returns-then-fill-gt-LARGEST c all =
 pub loop-record-preserved : goal.loop-record-preserved
 loop-record-preserved c =
     All-more Short _ _ (blank Admissions) c.loop-record-test.true c.loop-record.invariant
-    (elim c.match-record.branch [ in-Fill+else-fill-gt-LARGEST w ↦ subst Short (sym w.in-Fill.is) w.if-fill-gt-LARGEST.false | in-default w ↦ no_fill _ w.in-default.not-Fill ])
+    (elim c.match-record.branch [ in-Fill+else-fill-gt-LARGEST w ↦ subst Short (sym w.in-Fill.is) w.if-fill-gt-LARGEST.false | in_default w ↦ no_fill _ w.in_default.not-Fill ])
 
 pub returns : goal.returns
 returns c = subst (All Short) (take_all _ _ c.loop-record-test.false) c.loop-record.invariant

@@ -6,11 +6,11 @@ use Rattle.image.proofs.take.admission.Goals as goal
 pub returns : goal.returns
 returns c =
     let bs = c.args.bytes.now in
-    let typed = c.type-inv.bytes in
+    let typed = c.type_inv.bytes in
     let enough : 6 ≤ length bs = omega (arith, leb-false) in (
       refl,
-      half_at bs typed 0 c.from-be-bytes.result (omega arith) (omega (arith, c.from-be-bytes.ensures))
-          (half_at bs typed 2 c.from-be-bytes-2.result (omega arith) (omega (arith, c.from-be-bytes-2.ensures))
-          (half_at bs typed 4 c.from-be-bytes-3.result (omega arith) (omega (arith, c.from-be-bytes-3.ensures))
+      half_at bs typed 0 c.from_be_bytes.result (omega arith) (omega (arith, c.from_be_bytes.ensures))
+          (half_at bs typed 2 c.from_be_bytes-2.result (omega arith) (omega (arith, c.from_be_bytes-2.ensures))
+          (half_at bs typed 4 c.from_be_bytes-3.result (omega arith) (omega (arith, c.from_be_bytes-3.ensures))
           (sym (take_rest bs 6)))),
     )

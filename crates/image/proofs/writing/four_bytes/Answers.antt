@@ -7,4 +7,4 @@ returns c =
     let a : n / 16777216 % 256 ≡ n / 65536 / 256 = omega arith in
     let b : n / 256 % 256 ≡ n % 65536 / 256 = omega arith in
     let d : n % 256 ≡ n % 65536 % 256 = omega arith in
-    c.to-be-bytes.ensures ∙ (λ i. a i ∷ n / 65536 % 256 ∷ b i ∷ d i ∷ [])
+    c.to_be_bytes.ensures ∙ (λ i. a i ∷ n / 65536 % 256 ∷ b i ∷ d i ∷ [])

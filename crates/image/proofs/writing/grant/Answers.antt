@@ -9,8 +9,8 @@ pub returns : goal.returns
 returns c =
     let number : c.match-grant.side ≡ side_number c.args.grant.side =
     elim c.match-grant.branch [ in-Code w ↦ w.side-is ∙ ap side_number (sym w.in-Code.is) | in-Data w ↦ w.side-is ∙ ap side_number (sym w.in-Data.is) ] in
-    let p = c.two-bytes.ensures in
-    let side = c.two-bytes-2.ensures ∙ ap half number in
-    let page = c.four-bytes.ensures in
-    let k = c.two-bytes-3.ensures in
-    added _ _ _ _ (written (Grant c.args.grant)) c.extend-from-slice.ensures.items (simp (p, side, page, k))
+    let p = c.two_bytes.ensures in
+    let side = c.two_bytes-2.ensures ∙ ap half number in
+    let page = c.four_bytes.ensures in
+    let k = c.two_bytes-3.ensures in
+    added _ _ _ _ (written (Grant c.args.grant)) c.extend_from_slice.ensures.items (simp (p, side, page, k))

@@ -5,7 +5,7 @@ use Rattle.image.proofs.writing.put.Goals as goal
 
 pub returns : goal.returns
 returns c =
-    let p = c.two-bytes.ensures in
-    let r = c.two-bytes-2.ensures in
-    let value = c.four-bytes.ensures in
-    added _ _ _ _ (written (Put c.args.put)) c.extend-from-slice.ensures.items (simp (p, r, value))
+    let p = c.two_bytes.ensures in
+    let r = c.two_bytes-2.ensures in
+    let value = c.four_bytes.ensures in
+    added _ _ _ _ (written (Put c.args.put)) c.extend_from_slice.ensures.items (simp (p, r, value))

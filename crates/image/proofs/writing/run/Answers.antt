@@ -5,6 +5,6 @@ use Rattle.image.proofs.writing.run.Goals as goal
 
 pub returns : goal.returns
 returns c =
-    let p = c.two-bytes.ensures in
-    let n = c.four-bytes.ensures in
-    added _ _ _ _ (written (Run c.args.run)) c.extend-from-slice.ensures.items (simp (p, n))
+    let p = c.two_bytes.ensures in
+    let n = c.four_bytes.ensures in
+    added _ _ _ _ (written (Run c.args.run)) c.extend_from_slice.ensures.items (simp (p, n))

@@ -5,4 +5,4 @@ pub returns : goal.returns
 returns c =
     let n = c.args.n in
     let high : n / 256 % 256 ≡ n / 256 = omega arith in
-    c.to-be-bytes.ensures ∙ (λ i. high i ∷ n % 256 ∷ [])
+    c.to_be_bytes.ensures ∙ (λ i. high i ∷ n % 256 ∷ [])

@@ -8,9 +8,9 @@ use Rattle.image.proofs.writing.write.Goals as goal
 
 pub loop-section-preserved : goal.loop-section-preserved
 loop-section-preserved c =
-    written_section c.args.records.now _ _ _ _ _ (take_more order _ Admissions c.loop-section-test.true) c.loop-section.invariant c.in-ok-write-section.ensures
+    written_section c.args.records.now _ _ _ _ _ (take_more order _ Admissions c.loop-section-test.true) c.loop-section.invariant c.in_ok-write_section.ensures
 
 pub returns : goal.returns
 returns c =
-    writes _ _ c.in-ok-check.ensures
+    writes _ _ c.in_ok-check.ensures
     (c.loop-section.invariant ∙ ap (λ ss. flat (flat_map block (map (λ s. among s c.args.records.now) ss))) (take_all _ order c.loop-section-test.false))

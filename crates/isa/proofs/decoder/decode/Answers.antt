@@ -4,10 +4,10 @@ use Rattle.isa.specs.Map.{Ruled}
 use Rattle.isa.proofs.Decoded.{right, wrong}
 use Rattle.isa.proofs.decoder.decode.Goals as goal
 
-pub returns-in-default-displacement : goal.returns-in-default-displacement
-returns-in-default-displacement c =
+pub returns-in_default-displacement : goal.returns-in_default-displacement
+returns-in_default-displacement c =
     let h : 2 ≤ length c.args.bytes.now = search rules in
-    record { value = wrong c.args.bytes.now _ h (sym c.lookup-cell.ensures.cell ∙ c.in-Carried.is) c.in-default-displacement.ensures; format = tt }
+    record { value = wrong c.args.bytes.now _ h (sym c.lookup-cell.ensures.cell ∙ c.in-Carried.is) c.in_default-displacement.ensures; format = tt }
 
 pub returns-in-Some : goal.returns-in-Some
 returns-in-Some c =

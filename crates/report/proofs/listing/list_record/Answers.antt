@@ -5,11 +5,11 @@ use Rattle.report.specs.Listing.{CodeOf, code_lines, line}
 use Rattle.report.proofs.Records.{both, fill_code}
 use Rattle.report.proofs.listing.list_record.Goals as goal
 
-pub returns-in-ok-list-code : goal.returns-in-ok-list-code
-returns-in-ok-list-code c =
-    let listed = c.in-ok-list-code.ensures in (
+pub returns-in_ok-list_code : goal.returns-in_ok-list_code
+returns-in_ok-list_code c =
+    let listed = c.in_ok-list_code.ensures in (
       code_lines listed.0,
       subst (λ r. CodeOf c.args.all.now r (code_lines listed.0)) (sym c.in-Fill.is)
-          (fill_code c.args.all.now c.in-Fill.fill listed.0 c.if-any-grants.ensures listed.1),
-      both (string_bytes c.args.out.now) _ _ (line (record_text c.args.placed)) _ listed.2 c.in-ok-writeln.ensures.bytes,
+          (fill_code c.args.all.now c.in-Fill.fill listed.0 c.if-any_grants.ensures listed.1),
+      both (string_bytes c.args.out.now) _ _ (line (record_text c.args.placed)) _ listed.2 c.in_ok-writeln.ensures.bytes,
     )

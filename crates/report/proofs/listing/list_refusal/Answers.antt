@@ -3,4 +3,4 @@ use Rattle.std.proofs.Common.{append_assoc}
 use Rattle.report.proofs.listing.list_refusal.Goals as goal
 
 pub returns : goal.returns
-returns c = simp append_assoc c.in-ok-writeln.ensures.bytes
+returns c = simp append_assoc c.in_ok-writeln.ensures.bytes

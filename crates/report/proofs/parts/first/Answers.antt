@@ -4,8 +4,8 @@ use Rattle.isa.specs.Map.{length_at}
 use Rattle.report.proofs.Cutting.{cut, even}
 use Rattle.report.proofs.parts.first.Goals as goal
 
-pub returns-in-default : goal.returns-in-default
-returns-in-default c =
+pub returns-in_default : goal.returns-in_default
+returns-in_default c =
     let e : c.args.address % 2 ≡ 0 = search rules in
     let h : length c.args.bytes.now < 2 = search rules in
     let l : length c.args.bytes.now < max 2 (length_at (get_or c.args.bytes.now 0 0)) = omega arith in

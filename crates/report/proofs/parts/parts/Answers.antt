@@ -19,8 +19,8 @@ loop-rest-preserved c =
     let rest = c.loop-rest.rest.now in
     let size = c.first-size.result.0 in
     let address = c.args.offset + (length c.args.bytes.now - length rest) in
-    let after = c.split-at.result.1.now in
-    let len : length after + size ≡ length rest = c.split-at.ensures.back_len in
+    let after = c.split_at.result.1.now in
+    let len : length after + size ≡ length rest = c.split_at.ensures.back_len in
     let inv = c.loop-rest.invariant in
     let fits : length rest ≤ length c.args.bytes.now = inv.0 in (
       omega arith,
@@ -28,17 +28,17 @@ loop-rest-preserved c =
           let e : address + size ≡ c.args.offset + (length c.args.bytes.now - length after) = omega arith in
           let p : Part = record {
             address = c.from.result + (length c.args.bytes.now - length rest);
-            bytes = c.split-at.result.0;
+            bytes = c.split_at.result.0;
             content = c.first-size.result.1;
           } in
           let at : c.from.result + (length c.args.bytes.now - length rest) ≡ address =
           ap (λ o. o + (length c.args.bytes.now - length rest)) c.from.ensures in
           let covered : Covers address rest (p ∷ ps) =
-          more address _ rest size p ps at c.split-at.ensures.front
+          more address _ rest size p ps at c.split_at.ensures.front
           (subst (λ a. Begins a rest size c.first-size.result.1) at c.first-size.ensures) e
-          (subst (λ l. Covers (c.args.offset + (length c.args.bytes.now - length after)) l ps) c.split-at.ensures.back covers) in
+          (subst (λ l. Covers (c.args.offset + (length c.args.bytes.now - length after)) l ps) c.split_at.ensures.back covers) in
           subst (Covers c.args.offset c.args.bytes.now)
-          (sym (ap (λ l. l ++ ps) c.in-ok-push.ensures.items ∙ append_assoc (vec_items c.loop-rest.out) (p ∷ []) ps))
+          (sym (ap (λ l. l ++ ps) c.in_ok-push.ensures.items ∙ append_assoc (vec_items c.loop-rest.out) (p ∷ []) ps))
           (inv.1 (p ∷ ps) covered),
     )
 

@@ -9,11 +9,11 @@ use Rattle.words.proofs.division.divide.Goals as goal
 
 pub returns : goal.returns
 returns c =
-    let given = c.in-ok-d.ensures in
+    let given = c.in_ok-d.ensures in
     let value = given.0 in
     let n : SFits w64 c.whole.result = search rules in
-    let d : SFits w64 c.in-ok-d.d = search rules in
-    let f = quotient_fits c.whole.result c.in-ok-d.d c.whole.ensures.within in
+    let d : SFits w64 c.in_ok-d.d = search rules in
+    let f = quotient_fits c.whole.result c.in_ok-d.d c.whole.ensures.within in
     let q = quot_z (signed 32 c.args.a) (signed 32 c.args.b) in
     let k : c.keep.result ≡ kept q = c.keep.ensures.value ∙ simp to_z-of_z (cc) in
     let t : Told q c.keep.result = as_told c.keep.result c.keep.ensures.told (simp to_z-of_z (cc)) in

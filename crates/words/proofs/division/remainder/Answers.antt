@@ -7,11 +7,11 @@ use Rattle.words.proofs.division.remainder.Goals as goal
 
 pub returns : goal.returns
 returns c =
-    let given = c.in-ok-d.ensures in
+    let given = c.in_ok-d.ensures in
     let value = given.0 in
     let n : SFits w64 c.whole.result = search rules in
-    let d : SFits w64 c.in-ok-d.d = search rules in
-    let f = remainder_fits c.whole.result c.in-ok-d.d c.whole.ensures.within in
+    let d : SFits w64 c.in_ok-d.d = search rules in
+    let f = remainder_fits c.whole.result c.in_ok-d.d c.whole.ensures.within in
     let e : c.word.result ≡ low 32 (rem_z (signed 32 c.args.a) (signed 32 c.args.b)) = c.word.ensures.value ∙ simp to_z-of_z (cc) in
     let w : Within 32 (signed 32 c.args.a) = subst (λ z. Within 32 z) c.whole.ensures.value c.whole.ensures.within in
     record {

@@ -8,5 +8,5 @@ pub returns : goal.returns
 unfolding extended
 returns c =
     let m : c.args.a % 65536 % 65536 ≡ c.args.a % 65536 = omega arith in
-    extends 16 c.args.a c.extend-displacement.result (omega arith) (omega arith)
-    (c.extend-displacement.ensures.value ∙ ap (λ n. low 32 (signed 16 n)) m)
+    extends 16 c.args.a c.extend_displacement.result (omega arith) (omega arith)
+    (c.extend_displacement.ensures.value ∙ ap (λ n. low 32 (signed 16 n)) m)

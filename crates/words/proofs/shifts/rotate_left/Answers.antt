@@ -7,6 +7,6 @@ pub returns : goal.returns
 unfolding circled
 returns c =
     let m : c.args.count % 32 % 32 ≡ c.args.count % 32 = omega arith in
-    let e : c.rotate-left.result ≡ circled c.args.a c.args.count =
-    c.rotate-left.ensures ∙ turned c.args.a (c.args.count % 32) (search rules) ∙ simp m in
+    let e : c.rotate_left.result ≡ circled c.args.a c.args.count =
+    c.rotate_left.ensures ∙ turned c.args.a (c.args.count % 32) (search rules) ∙ simp m in
     record { value = e; back = ap (λ n. circled n (32 - c.args.count % 32)) e ∙ turned-back c.args.a c.args.count (search rules) }

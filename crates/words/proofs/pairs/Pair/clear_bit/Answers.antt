@@ -8,8 +8,8 @@ use Rattle.words.proofs.pairs.Pair.clear_bit.Goals as goal
 pub returns : goal.returns
 returns c =
     let e = clear_is c.number-number.result (c.args.count % 64) (omega arith) ∙ ap (with_bit 64 (c.args.count % 64) 0) c.number-number.ensures in
-    let h = held c.from-number.ensures e in
+    let h = held c.from_number.ensures e in
     record { clears = h; replaced = held-replaced h (replaced 64 (c.args.count % 64) 0 _ (omega arith) (omega arith)) }
 
-pub overflow-sub-number : goal.overflow-sub-number
-overflow-sub-number c = and_le_l _ _
+pub overflow_sub-number : goal.overflow_sub-number
+overflow_sub-number c = and_le_l _ _

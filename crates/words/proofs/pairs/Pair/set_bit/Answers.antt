@@ -7,5 +7,5 @@ use Rattle.words.proofs.pairs.Pair.set_bit.Goals as goal
 pub returns : goal.returns
 returns c =
     let e = set_is c.number.result (c.args.count % 64) (omega arith) ∙ ap (with_bit 64 (c.args.count % 64) 1) c.number.ensures in
-    let h = held c.from-number.ensures e in
+    let h = held c.from_number.ensures e in
     record { sets = h; replaced = held-replaced h (replaced 64 (c.args.count % 64) 1 _ (omega arith) (omega arith)) }
