@@ -13,7 +13,7 @@ loop-b-preserved g c plain =
     let before = c.loop-b.invariant plain in
     let h : c.loop-b.b-index < length c.args.self.now.0.now = search rules in
     has_written_of_eq _ _ _ _ _ (sym (hexes-more c.args.self.now.0.now c.loop-b.b-index h))
-    (has_written_append _ _ _ _ _ _ before (c.in_ok-write.ensures.shows before.plain refl))
+    (has_written_append _ _ _ _ _ _ before (c.in_ok-write.ensures.writes before.plain refl))
 
 pub returns-clause-writes : goal.returns-clause-writes
 returns-clause-writes g c plain ok =
