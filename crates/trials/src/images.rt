@@ -31,7 +31,11 @@ fn fields(record: Record) -> [u32; 4] {
             f.p.into(),
             f.k.into(),
             f.offset.into(),
-            if f.bytes == [171, 205] { 2 } else { 0 },
+            if f.bytes == [171, 205].as_slice() {
+                2
+            } else {
+                0
+            },
         ],
         Record::Put(u) => [u.p.into(), u.r.into(), u.value, 0],
         Record::Run(e) => [e.p.into(), e.n, 0, 0],
@@ -113,7 +117,7 @@ fn reads_what_was_written(rt: HostRuntime) -> Result<(), Fail> {
         Record::Run(Run { p: 3, n: 1_000_000 }),
     ];
     let bytes = write(rt.alloc(), &records)?;
-    assert!(rt; bytes.as_slice() == SAMPLE);
+    assert!(rt; bytes.as_slice() == SAMPLE.as_slice());
     Ok(())
 }
 
