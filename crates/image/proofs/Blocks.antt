@@ -6,9 +6,9 @@ use Rattle.std.proofs.lemmas.List.{map-append}
 use Rattle.image.specs.declared.records.Record.{Record}
 use Rattle.image.specs.declared.records.Section.{Section}
 use Rattle.image.specs.Format.{half, written, flat, block, bare}
-use Rattle.image.specs.Reading.{Belong, Lists, Several, Block, Reaches, Accepts, Stuck}
+use Rattle.image.specs.Reading.{Belong, Lists, Several, Block, Accepts, Stuck}
 use Rattle.image.proofs.Grammar.{Single, beyond, joined-append, accepts_on, stuck_on, stuck_in}
-use Rattle.image.proofs.Several.{One, accepts_one, stuck_one, blanks_own, blank, records_are, several_single}
+use Rattle.image.proofs.Several.{One, accepts_one, stuck_one, blanks_own, blank, records_are}
 
 -- a count
 

@@ -1,14 +1,13 @@
 -- The five sections of an image.
-use Rattle.std.proofs.Common.{◌≡◌, ℕ, ◌+◌, ◌-◌, ◌<◌, Bool, true, false, cond, eqb, List, [], ◌∷◌, ◌++◌, map, length, get_or, take, filter, sym, refl, ap, ◌∙◌, subst, append-nil, arith, length-append}
+use Rattle.std.proofs.Common.{◌≡◌, ℕ, ◌+◌, ◌-◌, ◌<◌, true, false, eqb, List, [], ◌∷◌, ◌++◌, map, length, get_or, take, sym, refl, ap, ◌∙◌, subst, append-nil, arith, length-append}
 use Rattle.std.specs.List.{flat_map}
 use Rattle.std.proofs.lemmas.List.Elements.{filter-append, filter_more}
 use Rattle.std.proofs.ByRecursion.{kept_by_passes, All-weaker}
 use Rattle.std.proofs.lemmas.Bool.{cond-true, cond-false, eqb-true, eq-eqb, ne_eqb}
-use Rattle.image.specs.declared.records.Placed.{Placed}
 use Rattle.image.specs.declared.records.Record.{Record}
 use Rattle.image.specs.declared.records.Section.{Section}
 use Rattle.image.specs.declared.records.Section.TheVariants.{Admissions, Grants, Fills, Puts, Runs}
-use Rattle.image.specs.Format.{section_of, number, order, among, sections, flat, Ordered, block, parts, image, stand, placed, bare}
+use Rattle.image.specs.Format.{section_of, number, order, among, sections, flat, Ordered, block, parts, image, stand, bare}
 use Rattle.image.specs.Reading.{Belong, Image, Farthest, Accepts, Stuck, Reads, Refuses}
 use Rattle.image.proofs.Grammar.{farthest_as}
 use Rattle.image.proofs.Blocks.{Sectioned, Blocks, sections_are}

@@ -4,11 +4,10 @@ use Rattle.std.specs.List.{flat_map}
 use Rattle.std.proofs.lemmas.List.{map-append, map_push, take-append-drop, take_more}
 use Rattle.image.specs.declared.errors.ReadError.{ReadError}
 use Rattle.image.specs.declared.errors.ReadError.TheVariants.{Unreadable, Memory}
-use Rattle.image.specs.declared.records.Placed.{Placed}
 use Rattle.image.specs.declared.records.Record.{Record}
 use Rattle.image.specs.declared.records.Section.{Section}
-use Rattle.image.specs.Format.{half, written, section_of, among, sections, flat, Ordered, block, image, places, stand, placed, bare}
-use Rattle.image.specs.Reading.{Reads, Fails}
+use Rattle.image.specs.Format.{half, written, section_of, among, sections, flat, Ordered, block, image, places, stand, bare}
+use Rattle.image.specs.Reading.{Fails}
 use Rattle.image.specs.Writing.{Adds, total, Writable, Writes}
 use Rattle.image.proofs.Grammar.{joined-append, length-flat}
 use Rattle.image.proofs.Images.{among_in, among_out, image-is}

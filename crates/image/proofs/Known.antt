@@ -1,5 +1,5 @@
 -- A record is known from its section and its bytes, but for where the bytes of a fill lie.
-use Rattle.std.proofs.Common.{◌≡◌, ℕ, zero, suc, ◌+◌, ◌*◌, ◌/◌, ◌%◌, List, [], ◌∷◌, ◌++◌, length, get_or, take, drop, sym, refl, ap, ◌∙◌, subst, arith}
+use Rattle.std.proofs.Common.{◌≡◌, ℕ, zero, suc, ◌+◌, ◌*◌, ◌/◌, ◌%◌, List, ◌++◌, length, get_or, take, drop, sym, refl, ap, ◌∙◌, arith}
 use Rattle.std.proofs.lemmas.List.{take_at, drop_at}
 use Rattle.isa.specs.declared.kinds.Side.{Side}
 use Rattle.isa.specs.declared.kinds.Side.TheVariants.{Code, Data}
@@ -7,7 +7,7 @@ use Rattle.image.specs.declared.records.Record.{Record}
 use Rattle.image.specs.declared.records.Record.TheVariants.{Admit, Grant, Fill, Put, Run}
 use Rattle.image.specs.declared.records.Section.{Section}
 use Rattle.image.specs.declared.records.Section.TheVariants.{Admissions, Grants, Fills, Puts, Runs}
-use Rattle.image.specs.Format.{half, word, written, section_of, side_number, bare}
+use Rattle.image.specs.Format.{written, section_of, side_number, bare}
 
 abbrev half_of : ℕ → ℕ → ℕ
 half_of a b = a * 256 + b

@@ -6,7 +6,7 @@ use Rattle.image.specs.declared.records.Record.{Record}
 use Rattle.image.specs.declared.records.Record.TheVariants.{Admit, Grant, Fill, Put, Run}
 use Rattle.image.specs.declared.records.Section.{Section}
 use Rattle.image.specs.declared.records.Section.TheVariants.{Admissions, Grants, Fills, Puts, Runs}
-use Rattle.image.specs.Format.{section_of, number, among, sections, flat, Ordered}
+use Rattle.image.specs.Format.{section_of, number, among, Ordered}
 use Rattle.image.specs.Reading.{Belong}
 use Rattle.image.proofs.Images.{among_belong}
 

@@ -1,17 +1,15 @@
 -- One part, and several records of a section.
 use Rattle.std.proofs.Common.{◌≡◌, ℕ, zero, suc, ◌+◌, ◌-◌, ◌<◌, ◌≤◌, ◌⊎◌, List, [], ◌∷◌, ◌++◌, map, length, take, drop, replicate, sym, refl, ap, ◌∙◌, subst, inl, inr, ⊎_elim, append_assoc, append-nil, arith, length-append}
 use lib.ListN.{length-map, length-replicate}
-use Rattle.std.specs.List.{AllByRecursion as All}
 use Rattle.std.proofs.ByRecursion.{All-push, All-append, All-take, All-drop}
-use Rattle.std.proofs.lemmas.List.{append_cancel_left, map-append, map_push, length_push, take-append-drop, length-take-le, length-drop}
-use Rattle.image.specs.declared.records.Placed.{Placed}
+use Rattle.std.proofs.lemmas.List.{map-append, map_push, length_push, take-append-drop, length-take-le, length-drop}
 use Rattle.image.specs.declared.records.Record.{Record}
 use Rattle.image.specs.declared.records.Record.TheVariants.{Admit, Grant, Fill, Put, Run}
 use Rattle.image.specs.declared.records.Section.{Section}
 use Rattle.image.specs.declared.records.Section.TheVariants.{Admissions, Grants, Fills, Puts, Runs}
 use Rattle.isa.specs.declared.kinds.Side.TheVariants.{Code}
-use Rattle.image.specs.Format.{written, section_of, flat, places, bare}
-use Rattle.image.specs.Reading.{Belong, Lists, Several, Reaches, Farthest, Accepts, Stuck}
+use Rattle.image.specs.Format.{written, section_of, flat, bare}
+use Rattle.image.specs.Reading.{Belong, Lists, Several, Reaches, Accepts, Stuck}
 use Rattle.image.proofs.Grammar.{Single, accepts_on, stuck_on, stuck_in}
 use Rattle.image.proofs.Known.{record_is}
 

@@ -17,7 +17,7 @@
 -- stand        the same for several sections
 -- placed       the same for an image
 -- bare         a record, but for where in memory the bytes of a fill lie
-use Rattle.std.specs.Prelude.{◌≡◌, ℕ, ◌+◌, ◌/◌, ◌%◌, Bool, List, [], ◌∷◌, ◌++◌, map, length, filter, nat_eq}
+use Rattle.std.specs.Prelude.{◌≡◌, ℕ, ◌+◌, ◌/◌, ◌%◌, List, [], ◌∷◌, ◌++◌, map, length, filter, nat_eq}
 use Rattle.std.specs.List.{flat_map}
 use Rattle.isa.specs.declared.kinds.Side.{Side}
 use Rattle.isa.specs.declared.kinds.Side.TheVariants.{Code, Data}

@@ -15,7 +15,7 @@
 -- Refuses    the bytes are no image, and the offset is the farthest that they reach
 -- Fails      what an error says of the bytes
 -- refusal    number and value of each case of an error; want of memory is no refusal, and has 0
-use Rattle.std.specs.Prelude.{◌≡◌, ℕ, ◌+◌, ◌<◌, ◌≤◌, List, [], ◌∷◌, ◌++◌, map, length, Some, None, Ok, Err, Option, Result, ◌≢◌}
+use Rattle.std.specs.Prelude.{◌≡◌, ℕ, ◌+◌, ◌<◌, ◌≤◌, List, ◌++◌, map, length, Some, None, Ok, Err, Option, Result, ◌≢◌}
 use Rattle.std.specs.Borrow.{Bor}
 use Rattle.std.specs.List.{AllByRecursion as All}
 use Rattle.image.specs.declared.errors.ReadError.{ReadError}

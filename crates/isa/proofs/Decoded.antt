@@ -1,14 +1,12 @@
 -- What `decoded` gives where the opcode is a carried one.
-use Rattle.std.proofs.Common.{◌≡◌, ℕ, ◌+◌, ◌-◌, ◌/◌, ◌%◌, ◌≤◌, Bool, true, false, cond, eqb, ltb, List, length, get_or, take, drop, Some, None, Ok, Err, Option, Result, sym, refl, ap, ◌∙◌, arith, length-drop, le-ltb, eqb-true}
+use Rattle.std.proofs.Common.{◌≡◌, ℕ, ◌+◌, ◌-◌, ◌/◌, ◌%◌, ◌≤◌, Bool, true, false, cond, eqb, List, length, get_or, take, drop, Some, None, Ok, Err, sym, refl, ap, ◌∙◌, arith, length-drop, le-ltb, eqb-true}
 use lib.Seq.{take-length}
 use Rattle.isa.specs.Decoding.{decoded, decoded_as, displacement_in, instruction}
 use Rattle.isa.specs.Formats.{size_at}
 use Rattle.isa.specs.Map.{opcode_at, length_of}
 use Rattle.isa.specs.declared.kinds.Kind.{Kind}
 use Rattle.isa.specs.declared.kinds.Instruction.{Instruction}
-use Rattle.isa.specs.declared.kinds.Opcode.{Opcode}
 use Rattle.isa.specs.declared.kinds.Opcode.TheVariants.{Carried}
-use Rattle.isa.specs.declared.kinds.Undecoded.{Undecoded}
 use Rattle.isa.specs.declared.kinds.Undecoded.TheVariants.{WrongLength}
 
 -- whether the bytes are as many as their opcode takes

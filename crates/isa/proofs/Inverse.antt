@@ -4,7 +4,6 @@ use Rattle.isa.specs.Formats.{size_at}
 use Rattle.isa.specs.Map.{opcode_at}
 use Rattle.isa.specs.Opcodes.{opcode_of}
 use Rattle.isa.proofs.Rows.{both, both_are, everywhere, listed, same, same-is}
-use Rattle.isa.specs.declared.kinds.Indexing.{Indexing}
 use Rattle.isa.specs.declared.kinds.Indexing.TheVariants.{Direct, Indexed}
 use Rattle.isa.specs.declared.kinds.Kind.{Kind}
 use Rattle.isa.specs.declared.kinds.Kind.TheVariants.{Move, Neg, Add, Sub, Mpy, Div, Rem, Not, Or, Xor, And, Cbit, Sbit, Tbit, Chk, Nop, Lcomp, Dcomp, Trap, Test, Callr, Ret, Kcall, Lsl, Lsr, Asl, Asr, Dlsl, Dlsr, Csl, Seb, Seh, Branch, Jump, Call, Loop, Store, Load, Laddr}
@@ -15,7 +14,6 @@ use Rattle.isa.specs.declared.kinds.Relation.TheVariants.{Greater, Less, Equal, 
 use Rattle.isa.specs.declared.kinds.Second.{Second}
 use Rattle.isa.specs.declared.kinds.Second.TheVariants.{Register, Field}
 use Rattle.isa.specs.declared.kinds.Side.TheVariants.{Code, Data}
-use Rattle.isa.specs.declared.kinds.Width.{Width}
 use Rattle.isa.specs.declared.kinds.Width.TheVariants.{Byte, Halfword, Word, Double}
 
 -- below 80h a kind has one opcode; from 80h up its short form takes four bytes, and sixteen on is its long form of six

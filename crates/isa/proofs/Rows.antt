@@ -1,6 +1,6 @@
 -- A table's rule, settled at once over all of its rows: the table is what the rule gives at 0, 1, 2 and so on.
 use Rattle.std.proofs.Common.{◌≡◌, ℕ, zero, suc, ◌+◌, ◌%◌, ◌<◌, Bool, true, false, cond, not, eqb, ltb, List, [], ◌∷◌, get_or, sym, refl, ap, ◌∙◌, le_of_suc-le-suc, not-suc-le-zero, add-zero, add-suc, suc-add, zero-add, ltb-true, eqb-true}
-use Rattle.isa.specs.Formats.{Formatted, LastBit, displaced, shape_of, size_at}
+use Rattle.isa.specs.Formats.{LastBit, displaced, shape_of, size_at}
 use Rattle.isa.specs.Map.{opcode_at, length_of, Ruled}
 use Rattle.isa.specs.declared.kinds.Indexing.TheVariants.{Direct, Indexed}
 use Rattle.isa.specs.declared.kinds.Opcode.{Opcode}

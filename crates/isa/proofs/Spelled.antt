@@ -1,5 +1,5 @@
 -- Encoding undoes decoding: what bytes that decode to an instruction look like, and that there are no others.
-use Rattle.std.proofs.Common.{◌≡◌, ℕ, ◌+◌, ◌*◌, ◌/◌, ◌%◌, ◌<◌, ◌≤◌, Bool, true, false, cond, eqb, ltb, List, [], ◌∷◌, length, get_or, drop, Some, None, Ok, Err, Result, sym, refl, ap, ◌∙◌, subst, add-zero, arith, lit≤, ltb-false, ltb-true, le-ltb, lt-ltb, eq-eqb, eqb-true}
+use Rattle.std.proofs.Common.{◌≡◌, ℕ, ◌+◌, ◌*◌, ◌/◌, ◌%◌, ◌<◌, ◌≤◌, Bool, true, false, cond, ltb, List, [], ◌∷◌, length, get_or, drop, Some, None, Ok, Err, sym, refl, ap, ◌∙◌, subst, add-zero, arith, lit≤, ltb-false, ltb-true, le-ltb, lt-ltb, eq-eqb, eqb-true}
 use Rattle.std.proofs.lemmas.List.FromFn.{fill_by_all}
 use Rattle.isa.specs.Decoding.{decoded, decoded_as, displacement_in, extended, instruction}
 use Rattle.isa.specs.Encoded.{Bytes, Spells, Unspelled}
@@ -13,7 +13,7 @@ use Rattle.isa.specs.declared.kinds.Opcode.TheVariants.{Empty, NotCarried, Kerne
 use Rattle.isa.specs.declared.kinds.Undecoded.{Undecoded}
 use Rattle.isa.specs.declared.kinds.Undecoded.TheVariants as undecoded
 use Rattle.isa.proofs.Decoded.{carried, whole}
-use Rattle.isa.proofs.Inverse.{Leads, Stands, Twice, leads, long_by, stands}
+use Rattle.isa.proofs.Inverse.{Stands, Twice, leads, long_by, stands}
 
 -- what decoding to i says of the bytes, with s the opcode of i's kind
 pub record Read (bs : List ℕ) (i : Instruction) (s : ℕ) : Type 0 where

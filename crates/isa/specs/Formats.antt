@@ -8,7 +8,6 @@
 -- | `size_at`   | the size of an instruction by its opcode                   |
 -- | `Formatted` | the length and format rule for a carried kind at an opcode |
 use Rattle.std.specs.Prelude.{◌≡◌, ℕ, ◌%◌, Bool, true, false, cond, not, nat_lt}
-use Rattle.isa.specs.declared.kinds.Indexing.{Indexing}
 use Rattle.isa.specs.declared.kinds.Indexing.TheVariants.{Direct, Indexed}
 use Rattle.isa.specs.declared.kinds.Kind.{Kind}
 use Rattle.isa.specs.declared.kinds.Kind.TheVariants as kind

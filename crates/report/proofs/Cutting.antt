@@ -3,7 +3,6 @@ use Rattle.std.proofs.Common.{◌≡◌, ℕ, ◌+◌, ◌%◌, ◌<◌, ◌≤�
 use lib.Seq.{drop-length, take-length}
 use Rattle.isa.specs.Decoding.{decoded, instruction}
 use Rattle.isa.specs.Map.{length_at, length_of, opcode_at}
-use Rattle.isa.specs.declared.kinds.Instruction.{Instruction}
 use Rattle.isa.specs.declared.kinds.Kind.{Kind}
 use Rattle.isa.specs.declared.kinds.Opcode.TheVariants as opcode
 use Rattle.isa.specs.declared.kinds.Undecoded.{Undecoded}

@@ -1,5 +1,5 @@
 -- Products and quotients of signed words: they fit 64 bits, and the quotient toward zero is the only one.
-use Rattle.std.proofs.Common.{◌≡◌, ℕ, zero, suc, ◌+◌, ◌-◌, ◌*◌, ◌/◌, ◌^◌, ◌<◌, ◌≤◌, ℤ, pos, negsuc, ◌*ℤ◌, neg_ℤ, nat_abs, ◌≤ℤ◌, ◌<ℤ◌, Some, sym, refl, ap, ◌∙◌, mod-lt, mul-le-mul_left, mul-zero, div-le_self, arith, w64, SFits, ne_eqb}
+use Rattle.std.proofs.Common.{◌≡◌, ℕ, zero, suc, ◌+◌, ◌*◌, ◌/◌, ◌^◌, ◌<◌, ◌≤◌, ℤ, pos, negsuc, ◌*ℤ◌, neg_ℤ, nat_abs, ◌≤ℤ◌, ◌<ℤ◌, Some, sym, refl, ap, ◌∙◌, mod-lt, mul-le-mul_left, mul-zero, div-le_self, arith, w64, SFits, ne_eqb}
 use native.Mathlib.Nat.{div-add-mod}
 use borrow.Author.Differences.{down, ints, neg_is, up}
 use lib.Signed.{mag_rem, quot_z, rem_z}

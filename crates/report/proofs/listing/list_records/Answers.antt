@@ -1,4 +1,4 @@
-use Rattle.std.proofs.Common.{[], sym, refl, append-nil}
+use Rattle.std.proofs.Common.{[], sym, append-nil}
 use Rattle.report.proofs.Records.{body_all, body_more}
 use Rattle.report.proofs.listing.list_records.Goals as goal
 

@@ -1,5 +1,5 @@
 -- Bytes too few for two are cut; a carried opcode is judged by `carried`.
-use Rattle.std.proofs.Common.{◌≡◌, ◌%◌, ◌<◌, ◌≤◌, max, length, get_or, sym, ◌∙◌, arith, rules}
+use Rattle.std.proofs.Common.{◌≡◌, ◌%◌, ◌<◌, max, length, get_or, arith, rules}
 use Rattle.isa.specs.Map.{length_at}
 use Rattle.report.proofs.Cutting.{cut, even}
 use Rattle.report.proofs.parts.first.Goals as goal

@@ -1,5 +1,5 @@
 -- One part more at the end of those so far, in front of what covers the rest.
-use Rattle.std.proofs.Common.{◌≡◌, ◌+◌, ◌-◌, ◌≤◌, List, [], ◌∷◌, ◌++◌, length, vec_items, sym, refl, ap, ◌∙◌, subst, append_assoc, append-nil, le_refl, add-zero, arith, rules}
+use Rattle.std.proofs.Common.{◌≡◌, ◌+◌, ◌-◌, ◌≤◌, [], ◌∷◌, ◌++◌, length, vec_items, sym, ap, ◌∙◌, subst, append_assoc, append-nil, le_refl, arith}
 use Rattle.report.specs.Parts.{Begins, Covers}
 use Rattle.report.specs.declared.parts.Part.{Part}
 use Rattle.report.proofs.Cutting.{more, none_left}

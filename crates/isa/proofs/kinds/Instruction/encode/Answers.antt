@@ -1,5 +1,5 @@
 -- Three ways to an encoding, by the size, and the ways on which no bytes spell the instruction.
-use Rattle.std.proofs.Common.{◌≡◌, ◌+◌, ◌*◌, ◌/◌, ◌%◌, ◌<◌, ◌≤◌, [], ◌∷◌, get_or, sym, ap, ◌∙◌, subst, arith, rules}
+use Rattle.std.proofs.Common.{◌≡◌, ◌+◌, ◌*◌, ◌<◌, ◌≤◌, [], ◌∷◌, get_or, sym, ap, ◌∙◌, subst, rules}
 use Rattle.isa.specs.Decoding.{extended}
 use Rattle.isa.specs.Encoded.{Encodes, Spells}
 use Rattle.isa.proofs.Spelled.{fits, fits-two, fits-four, fits-six, two, four, six, unmapped}

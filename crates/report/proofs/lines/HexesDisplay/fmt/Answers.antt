@@ -1,7 +1,7 @@
 -- One byte more, and the end of the loop.
-use Rattle.std.proofs.Common.{◌≡◌, ◌<◌, ◌≤◌, length, get_or, take, sym, refl, ap, subst, arith, take_all, rules}
+use Rattle.std.proofs.Common.{◌<◌, length, sym, refl, ap, take_all, rules}
 use Rattle.std.proofs.Output.{has_written_of_eq, has_written_append, writes_in_calls_nil}
-use Rattle.report.specs.Lines.{hex, hexes}
+use Rattle.report.specs.Lines.{hexes}
 use Rattle.report.proofs.Hexes.{hexes-more}
 use Rattle.report.proofs.lines.HexesDisplay.fmt.Goals as goal
 
