@@ -2,7 +2,7 @@
 ghost use Rattle.std.specs.Prelude.{◌≡◌, ◌+◌, ◌<◌, ◌≤◌, length, MatchBool, MatchResult};
 ghost use Rattle.image.specs.Format.{written, among, Ordered};
 ghost use Rattle.image.specs.Writing.{total, Counted, Short, Writable, Broken};
-ghost use Rattle.std.specs.List.{AllByRecursion as All};
+ghost use Rattle.std.specs.List.{AllByRecursion};
 
 use super::errors::WriteError;
 use super::records::{LIMIT, Record, SECTIONS, Section};
@@ -55,7 +55,7 @@ fn counts_fit(records: &[Record]) -> bool
 
 // Whether no fill has too many bytes.
 fn fills_fit(records: &[Record]) -> bool
-    ensures { MatchBool result (All Short records.now) (All Short records.now → ⊥) }
+    ensures { MatchBool result (AllByRecursion Short records.now) (AllByRecursion Short records.now → ⊥) }
 {
     for record in records {
         if let Record::Fill(fill) = record {

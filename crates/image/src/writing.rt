@@ -1,6 +1,6 @@
 // Writing a list of records as an image.
 ghost use Rattle.std.specs.Prelude.{◌≡◌, ◌≤◌, length, MatchResult};
-ghost use Rattle.std.specs.List.{AllByRecursion as All};
+ghost use Rattle.std.specs.List.{AllByRecursion};
 ghost use Rattle.image.specs.Format.{half, word, written, among, flat, block};
 ghost use Rattle.image.specs.Writing.{Adds, Short, Broken, Writes};
 ghost use Rattle.image.specs.declared.records.Record.TheVariants.{Admit, Grant as GrantOf, Fill as FillOf, Put as PutOf, Run as RunOf};
@@ -93,7 +93,7 @@ fn write_record(out: &mut Vec<u8>, record: &Record) -> Result<(), AllocError>
 
 // Adds a section to `out`: its count, then those records that belong to it.
 fn write_section(out: &mut Vec<u8>, section: Section, records: &[Record]) -> Result<(), AllocError>
-    requires { (length (among section records.now) ≤ 65535) × (All Short records.now) }
+    requires { (length (among section records.now) ≤ 65535) × (AllByRecursion Short records.now) }
     ensures { Adds out.old.items out.new.items (flat (block (among section records.now))) result }
 {
     let count = two_bytes(rules::count(section, records) as u16);

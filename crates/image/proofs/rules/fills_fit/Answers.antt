@@ -1,5 +1,5 @@
 use Rattle.std.proofs.Common.{◌≡◌, sym, refl, subst, arith}
-use Rattle.std.specs.List.{AllByRecursion as All}
+use Rattle.std.specs.List.{AllByRecursion}
 use Rattle.std.proofs.ByRecursion.{All-get_or, All-more}
 use Rattle.std.proofs.lemmas.List.{take_all}
 use Rattle.image.specs.declared.records.Fill.{Fill as Filling}
@@ -30,4 +30,4 @@ loop-record-preserved c =
     (elim c.match-record.branch [ in-Fill+else-fill-gt-LARGEST w ↦ subst Short (sym w.in-Fill.is) w.if-fill-gt-LARGEST.false | in_default w ↦ no_fill _ w.in_default.not-Fill ])
 
 pub returns : goal.returns
-returns c = subst (All Short) (take_all _ _ c.loop-record-test.false) c.loop-record.invariant
+returns c = subst (AllByRecursion Short) (take_all _ _ c.loop-record-test.false) c.loop-record.invariant
