@@ -17,7 +17,7 @@ DEFINITION = re.compile(
     r"^(?P<indent>\s*)(?:(?:abbrev|unfoldable|pub|record|data|ruleset)\s+)*(?P<name>[^\s:(){}=.]+)(?:\s+[({][^)}]*[)}])*\s*:\s"
 )
 # Names that Rattle makes of the source: goals, invariants and measures keep its spelling.
-MADE = re.compile(r"^(returns|loop|invariant|decreases|overflow|ghost)\b|-requires|-init$|-preserved$")
+MADE = re.compile(r"^(returns|loop|invariant|decreases|overflow|nonzero|ghost)(\b|_)|-requires|-init$|-preserved$")
 # Words of the library that lemmas are named after.
 LIBRARY = set("length take drop map append sum and or xor not fill zero".split())
 TOKEN = re.compile(r"[A-Za-z_][\w'·-]*")
@@ -85,6 +85,9 @@ def laid_out(text):
 
 
 def main():
+    if len(sys.argv) > 1:
+        print(__doc__)
+        return 1
     defined = definitions()
     known = set(defined) | LIBRARY
     to = {n: snake(n, known) for n in defined}

@@ -79,14 +79,14 @@ blanks_own s zero = tt
 blanks_own s (suc n) = (blank-own s, blanks_own s n)
 
 module _ (s : Section) where
-  abbrev Of_section : Record → Type 0
-  Of_section r = section_of r ≡ s
+  abbrev OfSection : Record → Type 0
+  OfSection r = section_of r ≡ s
 
-  pub accepts_record : {bs rest : List ℕ} (r : Record) → section_of r ≡ s → bs ≡ written r ++ rest → Accepts (One Of_section written) bs (written r ∷ []) rest
-  accepts_record {bs} {rest} r own e = accepts_one Of_section written r own e (λ q left own' f. ap length (sym (record_is s r q rest left own own' f).1))
+  pub accepts_record : {bs rest : List ℕ} (r : Record) → section_of r ≡ s → bs ≡ written r ++ rest → Accepts (One OfSection written) bs (written r ∷ []) rest
+  accepts_record {bs} {rest} r own e = accepts_one OfSection written r own e (λ q left own' f. ap length (sym (record_is s r q rest left own own' f).1))
 
-  pub stuck_record : {bs : List ℕ} → ((r : Record) (rest : List ℕ) → section_of r ≡ s → bs ≡ written r ++ rest → ⊥) → Stuck (One Of_section written) bs 0
-  stuck_record never = stuck_one Of_section written (blank s) (blank-own s) never
+  pub stuck_record : {bs : List ℕ} → ((r : Record) (rest : List ℕ) → section_of r ≡ s → bs ≡ written r ++ rest → ⊥) → Stuck (One OfSection written) bs 0
+  stuck_record never = stuck_one OfSection written (blank s) (blank-own s) never
 
   -- equal bytes are of the same records
   pub records_are : (xs ys : List Record) (a b : List ℕ) → Belong s xs → Belong s ys → length xs ≡ length ys → flat (map written xs) ++ a ≡ flat (map written ys) ++ b
@@ -116,11 +116,11 @@ module _ (s : Section) where
       )
 
   -- one record is left after all but the last
-  last_of : (n : ℕ) (ps : List (List ℕ)) → Several s (n + 1) ps → (q : List (List ℕ)) × (q' : List (List ℕ)) × Several s n q × (ps ≡ q ++ q') × One Of_section written q'
+  last_of : (n : ℕ) (ps : List (List ℕ)) → Several s (n + 1) ps → (q : List (List ℕ)) × (q' : List (List ℕ)) × Several s n q × (ps ≡ q ++ q') × One OfSection written q'
   last_of n ps l = go (first_of n (n + 1) (omega arith) ps l)
     where
       go : (rs : List Record) × (left : List Record) × (Belong s rs × (length rs ≡ n)) × (Belong s left × (length left ≡ n + 1 - n)) × (ps ≡ map written rs ++ map written left)
-          → (q : List (List ℕ)) × (q' : List (List ℕ)) × Several s n q × (ps ≡ q ++ q') × One Of_section written q'
+          → (q : List (List ℕ)) × (q' : List (List ℕ)) × Several s n q × (ps ≡ q ++ q') × One OfSection written q'
       go (rs, [], own, last, e) = absurd (omega (arith, last.1))
       go (rs, r ∷ [], own, last, e) = (map written rs, written r ∷ [], (rs, own, refl), e, (r, last.0.0, refl))
       go (rs, r ∷ r' ∷ left, own, last, e) = absurd (omega (arith, last.1))
@@ -144,7 +144,7 @@ module _ (s : Section) where
       → Accepts (Several s n) bs (map written rs) rest → Accepts (Several s (n + 1)) bs (map written (rs ++ r ∷ [])) after
   several_more {n} {bs} {rest} {after} rs r long owns own e first =
       subst (λ ps. Accepts (Several s (n + 1)) bs ps after) (sym (map_push written rs r))
-      (accepts_on (Several s n) (One Of_section written) (Several s (n + 1)) (several_single n) (map written rs)
+      (accepts_on (Several s n) (One OfSection written) (Several s (n + 1)) (several_single n) (map written rs)
       (λ q l. (rs ++ l.0 ∷ [], (All-push _ rs l.0 owns l.1, length_push rs l.0 ∙ ap (λ m. m + 1) long), ap (λ x. map written rs ++ x) l.2 ∙ sym (map_push written rs l.0)))
       (λ ps l. let w = last_of n ps l in (w.0, w.1, w.2, w.3, λ _. w.4))
       first (accepts_record r own e))
@@ -157,7 +157,7 @@ module _ (s : Section) where
       let more = replicate (c - (n + 1)) (blank s) in
       (map written more, (l.0 ++ more, (All-append _ l.0 more l.1.0 (blanks_own s (c - (n + 1))), omega (arith, length-append l.0 more, length-replicate (c - (n + 1)) (blank s), l.1.1)), ap (λ x. x ++ map written more) l.2 ∙ sym (map-append written l.0 more))))
       (λ ps l. let w = first_of (n + 1) c (omega arith) ps l in (map written w.0, map written w.1, (w.0, w.2, refl), w.4))
-      (stuck_on (Several s n) (One Of_section written) (Several s (n + 1)) (several_single n) (map written rs)
+      (stuck_on (Several s n) (One OfSection written) (Several s (n + 1)) (several_single n) (map written rs)
       (λ q l. (rs ++ l.0 ∷ [], (All-push _ rs l.0 owns l.1, length_push rs l.0 ∙ ap (λ m. m + 1) long), ap (λ x. map written rs ++ x) l.2 ∙ sym (map_push written rs l.0)))
       (λ ps l. let w = last_of n ps l in (w.0, w.1, w.2, w.3, λ _. w.4))
       first (stuck_record never))

@@ -1,9 +1,9 @@
 -- How records are written as an image.
 --
 -- half, word   a number of 16 bits, of 32 bits: its bytes, the most significant first
--- side_number   0 for code, 1 for data
+-- side_number  0 for code, 1 for data
 -- written      the bytes of a record
--- section_of    the section that a record belongs to
+-- section_of   the section that a record belongs to
 -- order        the sections, in their order
 -- number       the place of a section in that order
 -- among        those records of a list that belong to a section

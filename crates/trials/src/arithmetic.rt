@@ -1,5 +1,5 @@
 // The arithmetic of words at its edges, against tables of exact results.
-use std::process::Abort;
+use super::checks::check;
 use std::test::Fail;
 use words::{
     Kept, add, add_field, divide, multiply, multiply_field, negate, remainder, subtract,
@@ -83,121 +83,113 @@ const PRODUCTS_WITH_A_FIELD: [([u32; 3], &str); 5] = [
     ([0, MINUS, 0xffff_fff1], "..."),
 ];
 
-fn kept_is(rt: &impl Abort, found: Kept, word: u32, mark: u8) -> Result<(), Fail> {
-    assert_eq!(rt; found.word, word);
-    assert_eq!(rt; found.overflow, mark == b'x');
-    Ok(())
+fn kept_is(found: Kept, word: u32, mark: u8) -> Result<(), Fail> {
+    check(found.word == word, "another word")?;
+    check(found.overflow == (mark == b'x'), "overflow")
 }
 
-fn quotient_is(rt: &impl Abort, found: Option<Kept>, word: u32, mark: u8) -> Result<(), Fail> {
+fn quotient_is(found: Option<Kept>, word: u32, mark: u8) -> Result<(), Fail> {
     match found {
-        Some(kept) => kept_is(rt, kept, word, mark),
-        None => {
-            assert_eq!(rt; mark, b'-');
-            Ok(())
-        },
+        Some(kept) => kept_is(kept, word, mark),
+        None => check(mark == b'-', "no quotient"),
     }
 }
 
-fn remainder_is(rt: &impl Abort, found: Option<u32>, word: u32, mark: u8) -> Result<(), Fail> {
+fn remainder_is(found: Option<u32>, word: u32, mark: u8) -> Result<(), Fail> {
     match found {
         Some(rest) => {
-            assert_eq!(rt; mark, b'.');
-            assert_eq!(rt; rest, word);
-            Ok(())
+            check(mark == b'.', "a remainder")?;
+            check(rest == word, "another remainder")
         }
-        None => {
-            assert_eq!(rt; mark, b'-');
-            Ok(())
-        },
+        None => check(mark == b'-', "no remainder"),
     }
 }
 
 #[test]
-fn sums(rt: HostRuntime) -> Result<(), Fail> {
+fn sums() -> Result<(), Fail> {
     for (a, (words, marks)) in EDGES.iter().zip(SUMS.iter()) {
         for ((b, word), mark) in EDGES.iter().zip(words.iter()).zip(marks.bytes()) {
-            kept_is(&rt, add(*a, *b), *word, mark)?;
+            kept_is(add(*a, *b), *word, mark)?;
         }
     }
     Ok(())
 }
 
 #[test]
-fn differences(rt: HostRuntime) -> Result<(), Fail> {
+fn differences() -> Result<(), Fail> {
     for (a, (words, marks)) in EDGES.iter().zip(DIFFERENCES.iter()) {
         for ((b, word), mark) in EDGES.iter().zip(words.iter()).zip(marks.bytes()) {
-            kept_is(&rt, subtract(*a, *b), *word, mark)?;
+            kept_is(subtract(*a, *b), *word, mark)?;
         }
     }
     Ok(())
 }
 
 #[test]
-fn products(rt: HostRuntime) -> Result<(), Fail> {
+fn products() -> Result<(), Fail> {
     for (a, (words, marks)) in EDGES.iter().zip(PRODUCTS.iter()) {
         for ((b, word), mark) in EDGES.iter().zip(words.iter()).zip(marks.bytes()) {
-            kept_is(&rt, multiply(*a, *b), *word, mark)?;
+            kept_is(multiply(*a, *b), *word, mark)?;
         }
     }
     Ok(())
 }
 
 #[test]
-fn quotients(rt: HostRuntime) -> Result<(), Fail> {
+fn quotients() -> Result<(), Fail> {
     for (a, (words, marks)) in EDGES.iter().zip(QUOTIENTS.iter()) {
         for ((b, word), mark) in EDGES.iter().zip(words.iter()).zip(marks.bytes()) {
-            quotient_is(&rt, divide(*a, *b), *word, mark)?;
+            quotient_is(divide(*a, *b), *word, mark)?;
         }
     }
     Ok(())
 }
 
 #[test]
-fn remainders(rt: HostRuntime) -> Result<(), Fail> {
+fn remainders() -> Result<(), Fail> {
     for (a, (words, marks)) in EDGES.iter().zip(REMAINDERS.iter()) {
         for ((b, word), mark) in EDGES.iter().zip(words.iter()).zip(marks.bytes()) {
-            remainder_is(&rt, remainder(*a, *b), *word, mark)?;
+            remainder_is(remainder(*a, *b), *word, mark)?;
         }
     }
     Ok(())
 }
 
 #[test]
-fn sums_with_a_field(rt: HostRuntime) -> Result<(), Fail> {
+fn sums_with_a_field() -> Result<(), Fail> {
     for (a, (words, marks)) in EDGES.iter().zip(SUMS_WITH_A_FIELD.iter()) {
         for ((b, word), mark) in FIELDS.iter().zip(words.iter()).zip(marks.bytes()) {
-            kept_is(&rt, add_field(*a, *b), *word, mark)?;
+            kept_is(add_field(*a, *b), *word, mark)?;
         }
     }
     Ok(())
 }
 
 #[test]
-fn differences_with_a_field(rt: HostRuntime) -> Result<(), Fail> {
+fn differences_with_a_field() -> Result<(), Fail> {
     for (a, (words, marks)) in EDGES.iter().zip(DIFFERENCES_WITH_A_FIELD.iter()) {
         for ((b, word), mark) in FIELDS.iter().zip(words.iter()).zip(marks.bytes()) {
-            kept_is(&rt, subtract_field(*a, *b), *word, mark)?;
+            kept_is(subtract_field(*a, *b), *word, mark)?;
         }
     }
     Ok(())
 }
 
 #[test]
-fn products_with_a_field(rt: HostRuntime) -> Result<(), Fail> {
+fn products_with_a_field() -> Result<(), Fail> {
     for (a, (words, marks)) in EDGES.iter().zip(PRODUCTS_WITH_A_FIELD.iter()) {
         for ((b, word), mark) in FIELDS.iter().zip(words.iter()).zip(marks.bytes()) {
-            kept_is(&rt, multiply_field(*a, *b), *word, mark)?;
+            kept_is(multiply_field(*a, *b), *word, mark)?;
         }
     }
     Ok(())
 }
 
 #[test]
-fn only_the_least_word_has_no_negative(rt: HostRuntime) -> Result<(), Fail> {
-    kept_is(&rt, negate(LEAST), LEAST, b'x')?;
-    kept_is(&rt, negate(MOST), 0x8000_0001, b'.')?;
-    kept_is(&rt, negate(1), MINUS, b'.')?;
-    kept_is(&rt, negate(MINUS), 1, b'.')?;
-    kept_is(&rt, negate(0), 0, b'.')
+fn only_the_least_word_has_no_negative() -> Result<(), Fail> {
+    kept_is(negate(LEAST), LEAST, b'x')?;
+    kept_is(negate(MOST), 0x8000_0001, b'.')?;
+    kept_is(negate(1), MINUS, b'.')?;
+    kept_is(negate(MINUS), 1, b'.')?;
+    kept_is(negate(0), 0, b'.')
 }

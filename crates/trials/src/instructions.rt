@@ -1,43 +1,39 @@
 // Instructions of every row of the map, decoded, encoded and written out.
+use super::checks::check;
 use disasm::Text;
 use isa::{Indexing, Instruction, Kind, Relation, Second, Side, Undecoded, Width, decode};
 use std::alloc::Global;
-use std::process::Abort;
 use std::test::Fail;
 
 // The bytes decode to an instruction that is written so, and that has these bytes again.
-fn shows(rt: &impl Abort, heap: Global, bytes: &[u8], text: &str) -> Result<(), Fail> {
+fn shows(heap: Global, bytes: &[u8], text: &str) -> Result<(), Fail> {
     let instruction = decode(bytes)?;
     let shown = format!(in heap; "{}", Text(instruction))?;
-    assert!(rt; shown.as_str() == text, "{}", text);
+    check(shown.as_str() == text, text)?;
     let Some(encoding) = instruction.encode() else {
         return Err(Fail::new("not encoded"));
     };
-    assert!(rt; encoding.as_slice() == bytes, "{}", text);
-    Ok(())
+    check(encoding.as_slice() == bytes, text)
 }
 
 // The bytes are no carried instruction, for this reason.
-fn fails(rt: &impl Abort, bytes: &[u8], why: Undecoded) -> Result<(), Fail> {
+fn fails(bytes: &[u8], why: Undecoded) -> Result<(), Fail> {
     match decode(bytes) {
         Ok(_) => Err(Fail::new("decoded")),
-        Err(found) => {
-            assert!(rt; found == why);
-            Ok(())
-        },
+        Err(found) => check(found == why, "another reason"),
     }
 }
 
-fn all_show(rt: &impl Abort, heap: Global, cases: &[(&[u8], &str)]) -> Result<(), Fail> {
+fn all_show(heap: Global, cases: &[(&[u8], &str)]) -> Result<(), Fail> {
     for (bytes, text) in cases {
-        shows(rt, heap, bytes, text)?;
+        shows(heap, bytes, text)?;
     }
     Ok(())
 }
 
-fn all_fail(rt: &impl Abort, cases: &[(&[u8], Undecoded)]) -> Result<(), Fail> {
+fn all_fail(cases: &[(&[u8], Undecoded)]) -> Result<(), Fail> {
     for (bytes, why) in cases {
-        fails(rt, bytes, *why)?;
+        fails(bytes, *why)?;
     }
     Ok(())
 }
@@ -45,7 +41,6 @@ fn all_fail(rt: &impl Abort, cases: &[(&[u8], Undecoded)]) -> Result<(), Fail> {
 #[test]
 fn rows_0_and_1(rt: HostRuntime) -> Result<(), Fail> {
     all_show(
-        &rt,
         rt.alloc(),
         &[
             (&[0x01, 0x12], "MOVE R1, R2"),
@@ -64,7 +59,6 @@ fn rows_0_and_1(rt: HostRuntime) -> Result<(), Fail> {
 #[test]
 fn rows_2_to_4(rt: HostRuntime) -> Result<(), Fail> {
     all_show(
-        &rt,
         rt.alloc(),
         &[
             (&[0x28, 0x12], "LCOMP R1, R2"),
@@ -72,26 +66,22 @@ fn rows_2_to_4(rt: HostRuntime) -> Result<(), Fail> {
             (&[0x3b, 0x03], "TRAP 3"),
         ],
     )?;
-    all_fail(
-        &rt,
-        &[
-            (&[0x20, 0x12], Undecoded::NotCarried),
-            (&[0x2f, 0x12], Undecoded::NotCarried),
-            (&[0x2b, 0x12], Undecoded::Empty),
-            (&[0x3a, 0x12], Undecoded::NotCarried),
-            (&[0x40, 0x00], Undecoded::Kernel),
-            (&[0x4c, 0x0f], Undecoded::Kernel),
-            (&[0x4d, 0x00], Undecoded::Empty),
-            (&[0x4f, 0x00], Undecoded::Kernel),
-        ],
-    )
+    all_fail(&[
+        (&[0x20, 0x12], Undecoded::NotCarried),
+        (&[0x2f, 0x12], Undecoded::NotCarried),
+        (&[0x2b, 0x12], Undecoded::Empty),
+        (&[0x3a, 0x12], Undecoded::NotCarried),
+        (&[0x40, 0x00], Undecoded::Kernel),
+        (&[0x4c, 0x0f], Undecoded::Kernel),
+        (&[0x4d, 0x00], Undecoded::Empty),
+        (&[0x4f, 0x00], Undecoded::Kernel),
+    ])
 }
 
 // One map lost the mark of 51h under the name of its group.
 #[test]
 fn row_5_has_twelve_tests(rt: HostRuntime) -> Result<(), Fail> {
     all_show(
-        &rt,
         rt.alloc(),
         &[
             (&[0x50, 0x12], "TEST R1 > R2"),
@@ -107,14 +97,13 @@ fn row_5_has_twelve_tests(rt: HostRuntime) -> Result<(), Fail> {
             (&[0x5e, 0x15], "TESTI R1 <> 5"),
         ],
     )?;
-    all_fail(&rt, &[(&[0x5f, 0x00], Undecoded::Empty)])
+    all_fail(&[(&[0x5f, 0x00], Undecoded::Empty)])
 }
 
 // The two maps differ in the order of row 7: it is that of row 6.
 #[test]
 fn rows_6_and_7_have_one_order(rt: HostRuntime) -> Result<(), Fail> {
     all_show(
-        &rt,
         rt.alloc(),
         &[
             (&[0x60, 0x12], "LSL R1, R2"),
@@ -136,7 +125,6 @@ fn rows_6_and_7_have_one_order(rt: HostRuntime) -> Result<(), Fail> {
 #[test]
 fn rows_8_and_9(rt: HostRuntime) -> Result<(), Fail> {
     all_show(
-        &rt,
         rt.alloc(),
         &[
             (&[0x86, 0x15, 0x00, 0x0c], "BR R1 = 5, 12"),
@@ -149,19 +137,15 @@ fn rows_8_and_9(rt: HostRuntime) -> Result<(), Fail> {
             (&[0x9b, 0x34, 0x80, 0x00, 0x00, 0x00], "BR -2147483648"),
         ],
     )?;
-    all_fail(
-        &rt,
-        &[
-            (&[0x81, 0x12], Undecoded::Empty),
-            (&[0x89, 0x12], Undecoded::Empty),
-        ],
-    )
+    all_fail(&[
+        (&[0x81, 0x12], Undecoded::Empty),
+        (&[0x89, 0x12], Undecoded::Empty),
+    ])
 }
 
 #[test]
 fn rows_a_to_f(rt: HostRuntime) -> Result<(), Fail> {
     all_show(
-        &rt,
         rt.alloc(),
         &[
             (&[0xa1, 0x12, 0xff, 0xfc], "STOREB R1, R2 - 4"),
@@ -180,33 +164,27 @@ fn rows_a_to_f(rt: HostRuntime) -> Result<(), Fail> {
             ),
         ],
     )?;
-    all_fail(
-        &rt,
-        &[
-            (&[0xa4, 0x12], Undecoded::Empty),
-            (&[0xcd, 0x12], Undecoded::Empty),
-        ],
-    )
+    all_fail(&[
+        (&[0xa4, 0x12], Undecoded::Empty),
+        (&[0xcd, 0x12], Undecoded::Empty),
+    ])
 }
 
 #[test]
-fn a_wrong_length_is_no_instruction(rt: HostRuntime) -> Result<(), Fail> {
-    all_fail(
-        &rt,
-        &[
-            (&[], Undecoded::WrongLength),
-            (&[0x03], Undecoded::WrongLength),
-            (&[0x03, 0x12, 0x00], Undecoded::WrongLength),
-            (&[0x80, 0x12], Undecoded::WrongLength),
-            (
-                &[0x80, 0x12, 0x00, 0x00, 0x00, 0x00],
-                Undecoded::WrongLength,
-            ),
-            (&[0x90, 0x12, 0x00, 0x00], Undecoded::WrongLength),
-            (&[0x12], Undecoded::WrongLength),
-            (&[0x12, 0x00, 0x00], Undecoded::Empty),
-        ],
-    )
+fn a_wrong_length_is_no_instruction() -> Result<(), Fail> {
+    all_fail(&[
+        (&[], Undecoded::WrongLength),
+        (&[0x03], Undecoded::WrongLength),
+        (&[0x03, 0x12, 0x00], Undecoded::WrongLength),
+        (&[0x80, 0x12], Undecoded::WrongLength),
+        (
+            &[0x80, 0x12, 0x00, 0x00, 0x00, 0x00],
+            Undecoded::WrongLength,
+        ),
+        (&[0x90, 0x12, 0x00, 0x00], Undecoded::WrongLength),
+        (&[0x12], Undecoded::WrongLength),
+        (&[0x12, 0x00, 0x00], Undecoded::Empty),
+    ])
 }
 
 // Whether some bytes spell the instruction.

@@ -4,6 +4,8 @@
 #[cfg(test)]
 mod arithmetic;
 #[cfg(test)]
+mod checks;
+#[cfg(test)]
 mod comparisons;
 #[cfg(test)]
 mod images;

@@ -1,21 +1,20 @@
 // Listings of small images: each content of a code fill, and images that cannot be read.
+use super::checks::check;
 use image::{Admission, Fill, Grant, Put, Record, Run, write};
 use isa::Side;
 use report::list;
 use std::alloc::Global;
-use std::process::Abort;
 use std::test::Fail;
 
-fn lists(rt: &impl Abort, heap: Global, bytes: &[u8], text: &str) -> Result<(), Fail> {
+fn lists(heap: Global, bytes: &[u8], text: &str) -> Result<(), Fail> {
     let Ok(listing) = list(heap, bytes) else {
         return Err(Fail::new("no memory"));
     };
-    assert!(rt; listing.as_str() == text, "{}", text);
-    Ok(())
+    check(listing.as_str() == text, text)
 }
 
 // The listing of a code fill alone.
-fn code(rt: &impl Abort, heap: Global, offset: u16, bytes: &[u8], text: &str) -> Result<(), Fail> {
+fn code(heap: Global, offset: u16, bytes: &[u8], text: &str) -> Result<(), Fail> {
     let grant = Grant {
         p: 3,
         side: Side::Code,
@@ -31,17 +30,16 @@ fn code(rt: &impl Abort, heap: Global, offset: u16, bytes: &[u8], text: &str) ->
     let Ok(image) = write(heap, &[Record::Grant(grant), Record::Fill(fill)]) else {
         return Err(Fail::new("not written"));
     };
-    lists(rt, heap, &image, text)
+    lists(heap, &image, text)
 }
 
 #[test]
 fn an_image_that_cannot_be_read_is_one_line(rt: HostRuntime) -> Result<(), Fail> {
     let heap = rt.alloc();
-    lists(&rt, heap, &[], "bad 16 0\n")?;
-    lists(&rt, heap, &[0, 0, 0], "bad 16 2\n")?;
-    lists(&rt, heap, &[0, 0, 0, 0, 0, 0, 0, 0, 0, 0, 0], "bad 16 10\n")?;
+    lists(heap, &[], "bad 16 0\n")?;
+    lists(heap, &[0, 0, 0], "bad 16 2\n")?;
+    lists(heap, &[0, 0, 0, 0, 0, 0, 0, 0, 0, 0, 0], "bad 16 10\n")?;
     lists(
-        &rt,
         heap,
         &[0, 0, 0, 1, 0, 0, 0, 2, 0, 0, 0, 0, 0, 0, 0, 0, 0, 0, 0, 0],
         "bad 16 4\n",
@@ -52,7 +50,6 @@ fn an_image_that_cannot_be_read_is_one_line(rt: HostRuntime) -> Result<(), Fail>
 fn an_empty_image_is_a_total(rt: HostRuntime) -> Result<(), Fail> {
     let empty = [0, 0, 0, 0, 0, 0, 0, 0, 0, 0];
     lists(
-        &rt,
         rt.alloc(),
         &empty,
         "total admissions 0 grants 0 fills 0 puts 0 runs 0\n",
@@ -97,7 +94,7 @@ fn every_record_has_its_line(rt: HostRuntime) -> Result<(), Fail> {
 42 run p 3 n 1000001
 total admissions 1 grants 1 fills 1 puts 1 runs 1
 ";
-    lists(&rt, heap, &image, text)
+    lists(heap, &image, text)
 }
 
 #[test]
@@ -108,7 +105,7 @@ fn code_at_an_odd_offset(rt: HostRuntime) -> Result<(), Fail> {
   4094 1000 NOP
 total admissions 0 grants 1 fills 1 puts 0 runs 0
 ";
-    code(&rt, rt.alloc(), 4093, &[0xff, 0x10, 0x00], text)
+    code(rt.alloc(), 4093, &[0xff, 0x10, 0x00], text)
 }
 
 #[test]
@@ -122,7 +119,6 @@ fn code_that_is_none_and_code_that_is_cut(rt: HostRuntime) -> Result<(), Fail> {
 total admissions 0 grants 1 fills 1 puts 0 runs 0
 ";
     code(
-        &rt,
         rt.alloc(),
         0,
         &[0x12, 0x34, 0x23, 0x12, 0x4c, 0x07, 0x90, 0x12, 0x00, 0x00],

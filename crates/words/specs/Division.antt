@@ -4,7 +4,7 @@
 -- |----------------|-------------------------------------------------------------------------------|
 -- | `SignOf`       | a whole number is zero or has the sign of another                             |
 -- | `Divides`      | n is d times q and r over, where r is smaller than d in size and has n's sign |
--- | `Truncates`    | the quotient and remainder that the library calls so divide, and no others do |
+-- | `Truncates`    | the library's `int_div` and `int_rem` divide so, and no other two numbers do  |
 -- | `quotient_of`  | what a division of words gives: nothing for a zero divisor                    |
 -- | `remainder_of` | the same for the remainder                                                    |
 -- | `Quotient`     | the laws of a division's answer                                               |

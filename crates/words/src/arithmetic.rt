@@ -24,15 +24,15 @@ pub(crate) fn keep(exact: i64) -> Kept
 }
 
 pub fn add(a: u32, b: u32) -> Kept
-    ensures value { result ≡ kept ((signed 32 a +ℤ signed 32 b)) }
-    ensures told { Told ((signed 32 a +ℤ signed 32 b)) result }
+    ensures value { result ≡ kept (signed 32 a +ℤ signed 32 b) }
+    ensures told { Told (signed 32 a +ℤ signed 32 b) result }
 {
     keep(whole(a) + whole(b))
 }
 
 pub fn subtract(a: u32, b: u32) -> Kept
-    ensures value { result ≡ kept ((signed 32 a -ℤ signed 32 b)) }
-    ensures told { Told ((signed 32 a -ℤ signed 32 b)) result }
+    ensures value { result ≡ kept (signed 32 a -ℤ signed 32 b) }
+    ensures told { Told (signed 32 a -ℤ signed 32 b) result }
 {
     keep(whole(a) - whole(b))
 }
@@ -47,15 +47,15 @@ fn product(x: i64, y: i64) -> i64
 }
 
 pub fn multiply(a: u32, b: u32) -> Kept
-    ensures value { result ≡ kept ((signed 32 a *ℤ signed 32 b)) }
-    ensures told { Told ((signed 32 a *ℤ signed 32 b)) result }
+    ensures value { result ≡ kept (signed 32 a *ℤ signed 32 b) }
+    ensures told { Told (signed 32 a *ℤ signed 32 b) result }
 {
     keep(product(whole(a), whole(b)))
 }
 
 pub fn negate(a: u32) -> Kept
-    ensures value { result ≡ kept ((neg_ℤ (signed 32 a))) }
-    ensures told { Told ((neg_ℤ (signed 32 a))) result }
+    ensures value { result ≡ kept (neg_ℤ (signed 32 a)) }
+    ensures told { Told (neg_ℤ (signed 32 a)) result }
 {
     keep(-whole(a))
 }
@@ -63,22 +63,22 @@ pub fn negate(a: u32) -> Kept
 // The immediate forms take the four-bit field of an instruction, a number that has no sign.
 
 pub fn add_field(a: u32, field: u8) -> Kept
-    ensures value { result ≡ kept ((signed 32 a +ℤ pos field)) }
-    ensures told { Told ((signed 32 a +ℤ pos field)) result }
+    ensures value { result ≡ kept (signed 32 a +ℤ pos field) }
+    ensures told { Told (signed 32 a +ℤ pos field) result }
 {
     keep(whole(a) + i64::from(field))
 }
 
 pub fn subtract_field(a: u32, field: u8) -> Kept
-    ensures value { result ≡ kept ((signed 32 a -ℤ pos field)) }
-    ensures told { Told ((signed 32 a -ℤ pos field)) result }
+    ensures value { result ≡ kept (signed 32 a -ℤ pos field) }
+    ensures told { Told (signed 32 a -ℤ pos field) result }
 {
     keep(whole(a) - i64::from(field))
 }
 
 pub fn multiply_field(a: u32, field: u8) -> Kept
-    ensures value { result ≡ kept ((signed 32 a *ℤ pos field)) }
-    ensures told { Told ((signed 32 a *ℤ pos field)) result }
+    ensures value { result ≡ kept (signed 32 a *ℤ pos field) }
+    ensures told { Told (signed 32 a *ℤ pos field) result }
 {
     keep(product(whole(a), i64::from(field)))
 }
