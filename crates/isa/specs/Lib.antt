@@ -3,3 +3,4 @@ pub mod Encoded
 pub mod Formats
 pub mod Map
 pub mod Opcodes
+pub mod Sides

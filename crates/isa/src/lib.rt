@@ -6,6 +6,7 @@ mod encoder;
 mod encoding;
 mod kinds;
 mod shapes;
+mod sides;
 mod table;
 
 pub use decoder::decode;
@@ -13,4 +14,5 @@ pub use encoding::Encoding;
 pub use kinds::{
     Indexing, Instruction, Kind, Opcode, Relation, Second, Shape, Side, Undecoded, Width,
 };
+pub use sides::NoSide;
 pub use table::lookup;
