@@ -1,6 +1,6 @@
 // From an instruction to its bytes.
 ghost use Rattle.std.specs.Prelude.{◌≡◌};
-ghost use Rattle.isa.specs.Encoded.{Encodes, bytes_of};
+ghost use Rattle.isa.specs.Encoded.{Encodes};
 ghost use Rattle.isa.specs.Opcodes.{beside, column, opcode_of, place, plus};
 
 use super::decoder::extend;
@@ -117,29 +117,12 @@ impl Instruction {
         let xy = i.x * 16 + i.y;
         let [a, b, c, d] = i.displacement.to_be_bytes();
         match i.size {
-            2 if op < 0x80 && i.displacement == 0 => Some(Encoding {
-                bytes: [op, xy, 0, 0, 0, 0],
-                size: 2,
-            }),
+            2 if op < 0x80 && i.displacement == 0 => Some(Encoding::Register([op, xy])),
             4 if op >= 0x80 && extend(u16::from_be_bytes([c, d])) == i.displacement => {
-                Some(Encoding {
-                    bytes: [op, xy, c, d, 0, 0],
-                    size: 4,
-                })
+                Some(Encoding::Short([op, xy, c, d]))
             }
-            6 if op >= 0x80 => Some(Encoding {
-                bytes: [op + 16, xy, a, b, c, d],
-                size: 6,
-            }),
+            6 if op >= 0x80 => Some(Encoding::Long([op + 16, xy, a, b, c, d])),
             _ => None,
         }
-    }
-}
-
-impl Encoding {
-    pub fn as_slice(&self) -> &[u8]
-        ensures { result.now ≡ bytes_of self.now }
-    {
-        &self.bytes[0..self.size]
     }
 }
