@@ -9,8 +9,8 @@ use Rattle.isa.specs.declared.kinds.Kind.{Kind}
 use Rattle.isa.specs.declared.kinds.Kind.TheVariants.{Move, Neg, Add, Sub, Mpy, Div, Rem, Not, Or, Xor, And, Cbit, Sbit, Tbit, Chk, Nop, Lcomp, Dcomp, Trap, Test, Callr, Ret, Kcall, Lsl, Lsr, Asl, Asr, Dlsl, Dlsr, Csl, Seb, Seh, Branch, Jump, Call, Loop, Store, Load, Laddr}
 use Rattle.isa.specs.declared.kinds.Opcode.{Opcode}
 use Rattle.isa.specs.declared.kinds.Opcode.TheVariants.{Empty, NotCarried, Kernel, Carried}
-use Rattle.isa.specs.declared.kinds.Relation.{Relation}
-use Rattle.isa.specs.declared.kinds.Relation.TheVariants.{Greater, Less, Equal, LessOrEqual, GreaterOrEqual, NotEqual}
+use Rattle.words.specs.declared.relations.Relation.{Relation}
+use Rattle.words.specs.declared.relations.Relation.TheVariants.{Greater, Less, Equal, LessOrEqual, GreaterOrEqual, NotEqual}
 use Rattle.isa.specs.declared.kinds.Second.{Second}
 use Rattle.isa.specs.declared.kinds.Second.TheVariants.{Register, Field}
 use Rattle.isa.specs.declared.kinds.Side.TheVariants.{Code, Data}

@@ -1,7 +1,9 @@
 -- Encoding undoes decoding: what bytes that decode to an instruction look like, and that there are no others.
 use Rattle.std.proofs.Common.{◌≡◌, ℕ, ◌+◌, ◌*◌, ◌/◌, ◌%◌, ◌<◌, ◌≤◌, Bool, true, false, cond, ltb, List, [], ◌∷◌, length, get_or, drop, Some, None, Ok, Err, sym, refl, ap, ◌∙◌, subst, add-zero, arith, lit≤, ltb-false, ltb-true, le-ltb, lt-ltb, eq-eqb, eqb-true}
 use Rattle.std.proofs.lemmas.List.FromFn.{fill_by_all}
-use Rattle.isa.specs.Decoding.{decoded, decoded_as, displacement_in, extended, instruction}
+use Rattle.words.proofs.Extended.{extends}
+use Rattle.words.specs.Extension.{extended}
+use Rattle.isa.specs.Decoding.{decoded, decoded_as, displacement_in, instruction}
 use Rattle.isa.specs.Encoded.{Bytes, Spells, Unspelled}
 use Rattle.isa.specs.Formats.{size_at}
 use Rattle.isa.specs.Map.{opcode_at}
@@ -128,15 +130,13 @@ two i op e h hx hy n d =
           cc;
     }
 
-sign_digits : (a b w : ℕ) → a < 256 → b < 256 → w ≡ extended (a * 256 + b) → (a ≡ w / 256 % 256) × (b ≡ w % 256)
-sign_digits a b w ha hb e = by_sign (ltb (a * 256 + b) 0x8000) e
-  where
-    by_sign : (t : Bool) → w ≡ cond t (a * 256 + b) (a * 256 + b + 0xffff0000) → (a ≡ w / 256 % 256) × (b ≡ w % 256)
-    by_sign true e = (omega arith, omega arith)
-    by_sign false e = (omega arith, omega arith)
+sign_digits : (a b w : ℕ) → a < 256 → b < 256 → w ≡ extended 16 (a * 256 + b) → (a ≡ w / 256 % 256) × (b ≡ w % 256)
+sign_digits a b w ha hb e =
+    let last : w % 65536 ≡ (a * 256 + b) % 65536 = (extends 16 (a * 256 + b) w (lit≤ tt) (lit≤ tt) e).last in
+    (omega arith, omega arith)
 
 pub four : (i : Instruction) (op c d : ℕ) → opcode_of i.kind ≡ Some op → 0x80 ≤ op → i.x ≤ 15 → i.y ≤ 15 → i.size ≡ 4 →
-    c ≡ i.displacement / 256 % 256 → d ≡ i.displacement % 256 → extended (c * 256 + d) ≡ i.displacement →
+    c ≡ i.displacement / 256 % 256 → d ≡ i.displacement % 256 → extended 16 (c * 256 + d) ≡ i.displacement →
     Spells i (op ∷ (i.x * 16 + i.y) ∷ c ∷ d ∷ [])
 four i op c d e h hx hy n ec ed w =
     let f = fields i hx hy in
@@ -204,7 +204,7 @@ unmapped i e bs b d = let r = read bs i b d in let z : ◌≡◌ {A = ℕ} 0 1 =
 -- what the format asks of an instruction, by its size
 pub data Fits (i : Instruction) (op : ℕ) : Type 0 where
   fits-two : i.size ≡ 2 → op < 0x80 → i.displacement ≡ 0 → Fits i op
-  fits-four : i.size ≡ 4 → 0x80 ≤ op → extended (i.displacement / 256 % 256 * 256 + i.displacement % 256) ≡ i.displacement → Fits i op
+  fits-four : i.size ≡ 4 → 0x80 ≤ op → extended 16 (i.displacement / 256 % 256 * 256 + i.displacement % 256) ≡ i.displacement → Fits i op
   fits-six : i.size ≡ 6 → 0x80 ≤ op → Fits i op
 
 by_size : (bs : List ℕ) (i : Instruction) (op : ℕ) → Bytes bs → Read bs i op → (t u : Bool) → ltb (get_or bs 0 0) 0x80 ≡ t →
@@ -215,10 +215,10 @@ by_size bs i op b r true u et eu n =
 by_size bs i op b r false true et eu n =
     let l : bs ≡ get_or bs 0 0 ∷ get_or bs 1 0 ∷ get_or bs 2 0 ∷ get_or bs 3 0 ∷ [] =
     fill_by_all (λ k. get_or bs k 0) bs 4 0 (r.long ∙ n) (λ k _. refl) in
-    let told : i.displacement ≡ extended (get_or bs 2 0 * 256 + get_or bs 3 0) = r.told ∙ ap (λ m. displacement_in (drop 2 m)) l in
+    let told : i.displacement ≡ extended 16 (get_or bs 2 0 * 256 + get_or bs 3 0) = r.told ∙ ap (λ m. displacement_in (drop 2 m)) l in
     let digits = sign_digits (get_or bs 2 0) (get_or bs 3 0) i.displacement (b 2) (b 3) told in
     fits-four n (ltb-false op 0x80 (r.half ∙ et))
-    (ap (λ m. extended (m * 256 + i.displacement % 256)) (sym digits.0) ∙ ap (λ m. extended (get_or bs 2 0 * 256 + m)) (sym digits.1) ∙ sym told)
+    (ap (λ m. extended 16 (m * 256 + i.displacement % 256)) (sym digits.0) ∙ ap (λ m. extended 16 (get_or bs 2 0 * 256 + m)) (sym digits.1) ∙ sym told)
 by_size bs i op b r false false et eu n = fits-six n (ltb-false op 0x80 (r.half ∙ et))
 
 pub fits : (i : Instruction) (op : ℕ) → opcode_of i.kind ≡ Some op → (bs : List ℕ) → Bytes bs → decoded bs ≡ Ok i → Fits i op

@@ -2,7 +2,6 @@
 --
 -- | word              | what it is                                         |
 -- |-------------------|----------------------------------------------------|
--- | `extended`        | a 16-bit number, sign extended to a word           |
 -- | `displacement_in` | the displacement in the bytes after the fields     |
 -- | `instruction`     | the instruction of a kind that bytes are           |
 -- | `decoded_as`      | the same where the cell of the opcode is known     |
@@ -15,15 +14,13 @@ use Rattle.isa.specs.declared.kinds.Instruction.{Instruction}
 use Rattle.isa.specs.declared.kinds.Undecoded.{Undecoded}
 use Rattle.isa.specs.declared.kinds.Undecoded.TheVariants.{Empty, NotCarried, Kernel, WrongLength}
 use Rattle.isa.specs.Map.{opcode_at, length_at}
-
-abbrev pub extended : ℕ → ℕ
-extended h = cond (nat_lt h 0x8000) h (h + 0xffff0000)
+use Rattle.words.specs.Extension.{extended}
 
 -- the number in the bytes after the fields: none in no bytes, 16 bits sign extended in two, 32 bits in four
 abbrev pub displacement_in : List ℕ → ℕ
 displacement_in d =
     cond (length d == 0) 0
-    (cond (length d == 2) (extended (slice_index d 0 * 256 + slice_index d 1))
+    (cond (length d == 2) (extended 16 (slice_index d 0 * 256 + slice_index d 1))
     (slice_index d 0 * 16777216 + slice_index d 1 * 65536 + slice_index d 2 * 256 + slice_index d 3))
 
 abbrev pub instruction : Kind → List ℕ → Instruction

@@ -11,8 +11,8 @@ use Rattle.std.specs.Prelude.{◌≡◌, ℕ, ◌/◌, ◌%◌, ◌<◌, List, [
 use Rattle.isa.specs.Formats.{Formatted, size_at}
 use Rattle.isa.specs.declared.kinds.Side.{Side}
 use Rattle.isa.specs.declared.kinds.Side.TheVariants.{Code, Data}
-use Rattle.isa.specs.declared.kinds.Relation.{Relation}
-use Rattle.isa.specs.declared.kinds.Relation.TheVariants.{Greater, Less, Equal, LessOrEqual, GreaterOrEqual, NotEqual}
+use Rattle.words.specs.declared.relations.Relation.{Relation}
+use Rattle.words.specs.declared.relations.Relation.TheVariants.{Greater, Less, Equal, LessOrEqual, GreaterOrEqual, NotEqual}
 use Rattle.isa.specs.declared.kinds.Second.{Second}
 use Rattle.isa.specs.declared.kinds.Second.TheVariants.{Register, Field}
 use Rattle.isa.specs.declared.kinds.Width.{Width}

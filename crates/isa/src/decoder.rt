@@ -1,20 +1,18 @@
 // From the bytes of an instruction to the instruction.
-ghost use Rattle.std.specs.Prelude.{◌≡◌, ◌+◌, length, IfOk, if◌then◌else◌, Some, None, nat_eq, slice_index};
-ghost use Rattle.isa.specs.Decoding.{decoded, displacement_in, extended};
+ghost use Rattle.std.specs.Prelude.{◌≡◌, ◌+◌, ◌*◌, length, IfOk, if◌then◌else◌, Some, None, nat_eq, slice_index};
+ghost use Rattle.isa.specs.Decoding.{decoded, displacement_in};
 ghost use Rattle.isa.specs.Formats.{Formatted, size_at};
+ghost use Rattle.words.specs.Extension.{extended};
 
 use super::kinds::{Instruction, Opcode, Undecoded};
 use super::table::lookup;
+use words::extend_displacement;
 
-// A 16-bit displacement as a word: its sign goes on into the upper half.
-pub fn extend(half: u16) -> u32
-    ensures { result ≡ extended half }
+// The displacement that a short format has in two bytes, with its sign.
+pub fn short_displacement(a: u8, b: u8) -> u32
+    ensures { result ≡ extended 16 (a * 256 + b) }
 {
-    if half < 0x8000 {
-        u32::from(half)
-    } else {
-        u32::from(half) + 0xffff_0000
-    }
+    extend_displacement(u16::from_be_bytes([a, b]))
 }
 
 // The displacement of a carried opcode, from the bytes after the fields; none where they are too few or too many.
@@ -23,7 +21,7 @@ fn displacement(op: u8, d: &[u8]) -> Option<u32>
 {
     match (op, d) {
         (0x00..=0x7f, []) => Some(0),
-        (0x80.., [a, b]) if op % 32 < 16 => Some(extend(u16::from_be_bytes([*a, *b]))),
+        (0x80.., [a, b]) if op % 32 < 16 => Some(short_displacement(*a, *b)),
         (0x80.., [a, b, c, e]) if op % 32 >= 16 => Some(u32::from_be_bytes([*a, *b, *c, *e])),
         _ => None,
     }

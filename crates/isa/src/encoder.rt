@@ -3,7 +3,7 @@ ghost use Rattle.std.specs.Prelude.{◌≡◌};
 ghost use Rattle.isa.specs.Encoded.{Encodes};
 ghost use Rattle.isa.specs.Opcodes.{beside, column, opcode_of, place, plus};
 
-use super::decoder::extend;
+use super::decoder::short_displacement;
 use super::encoding::Encoding;
 use super::kinds::{Indexing, Instruction, Kind, Relation, Second, Side, Width};
 
@@ -118,7 +118,7 @@ impl Instruction {
         let [a, b, c, d] = i.displacement.to_be_bytes();
         match i.size {
             2 if op < 0x80 && i.displacement == 0 => Some(Encoding::Register([op, xy])),
-            4 if op >= 0x80 && extend(u16::from_be_bytes([c, d])) == i.displacement => {
+            4 if op >= 0x80 && short_displacement(c, d) == i.displacement => {
                 Some(Encoding::Short([op, xy, c, d]))
             }
             6 if op >= 0x80 => Some(Encoding::Long([op + 16, xy, a, b, c, d])),

@@ -1,21 +1,12 @@
 // What an opcode names: kinds of instruction, and what their fields stand for.
+// A relation says how Rx is compared with the second operand, both signed.
+pub use words::Relation;
 
 // The segment that an address lies in.
 #[derive(Clone, Copy, PartialEq, Eq)]
 pub enum Side {
     Code,
     Data,
-}
-
-// How Rx is compared with the second operand, both signed.
-#[derive(Clone, Copy)]
-pub enum Relation {
-    Greater,
-    Less,
-    Equal,
-    LessOrEqual,
-    GreaterOrEqual,
-    NotEqual,
 }
 
 // What the Ry field gives as second operand: the register of that number, or the four-bit number itself.

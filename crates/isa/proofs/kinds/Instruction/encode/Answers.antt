@@ -1,6 +1,6 @@
 -- Three ways to an encoding, by the size, and the ways on which no bytes spell the instruction.
 use Rattle.std.proofs.Common.{◌≡◌, ◌+◌, ◌*◌, ◌<◌, ◌≤◌, [], ◌∷◌, get_or, sym, ap, ◌∙◌, subst, rules}
-use Rattle.isa.specs.Decoding.{extended}
+use Rattle.words.specs.Extension.{extended}
 use Rattle.isa.specs.Encoded.{Encodes, Spells}
 use Rattle.isa.proofs.Spelled.{fits, fits-two, fits-four, fits-six, two, four, six, unmapped}
 use Rattle.isa.proofs.kinds.Instruction.encode.Goals as goal
@@ -23,7 +23,7 @@ returns-in-4 c =
     let n : c.args.self.size ≡ 4 = search rules in
     let x : c.args.self.x ≤ 15 = search rules in
     let y : c.args.self.y ≤ 15 = search rules in
-    let told : extended (get_or c.to_be_bytes.result 2 0 * 256 + get_or c.to_be_bytes.result 3 0) ≡ c.args.self.displacement = search rules in
+    let told : extended 16 (get_or c.to_be_bytes.result 2 0 * 256 + get_or c.to_be_bytes.result 3 0) ≡ c.args.self.displacement = search rules in
     four c.args.self c.in_ok-op.op _ _ (sym c.opcode.ensures ∙ c.in_ok-op.was)
     c.if-op-ge128.true x y n (ap (λ l. get_or l 2 0) c.to_be_bytes.ensures) (ap (λ l. get_or l 3 0) c.to_be_bytes.ensures) told
 
@@ -41,6 +41,14 @@ returns-in-6 c =
 
 pub returns-in_default-2 : goal.returns-in_default-2
 returns-in_default-2 c bs b d =
+    elim (fits c.args.self c.in_ok-op.op (sym c.opcode.ensures ∙ c.in_ok-op.was) bs b d) [
+      | fits-two n h w ↦ search rules
+      | fits-four n h w ↦ search rules
+      | fits-six n h ↦ search rules
+    ]
+
+pub returns-in_default-3 : goal.returns-in_default-3
+returns-in_default-3 c bs b d =
     elim (fits c.args.self c.in_ok-op.op (sym c.opcode.ensures ∙ c.in_ok-op.was) bs b d) [
       | fits-two n h w ↦ search rules
       | fits-four n h w ↦ search rules
