@@ -6,7 +6,7 @@ ghost use Rattle.words.specs.Wholes.{signed};
 use super::wholes::whole;
 
 // How a word is compared with another, both signed.
-#[derive(Clone, Copy)]
+#[derive(Clone, Copy, PartialEq, Eq, Debug)]
 pub enum Relation {
     Greater,
     Less,
