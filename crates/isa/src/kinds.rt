@@ -3,21 +3,21 @@
 pub use words::Relation;
 
 // The segment that an address lies in.
-#[derive(Clone, Copy, PartialEq, Eq)]
+#[derive(Clone, Copy, PartialEq, Eq, Debug)]
 pub enum Side {
     Code,
     Data,
 }
 
 // What the Ry field gives as second operand: the register of that number, or the four-bit number itself.
-#[derive(Clone, Copy)]
+#[derive(Clone, Copy, PartialEq, Eq, Debug)]
 pub enum Second {
     Register,
     Field,
 }
 
 // The length of an operand in memory: 1, 2, 4 or 8 bytes.
-#[derive(Clone, Copy)]
+#[derive(Clone, Copy, PartialEq, Eq, Debug)]
 pub enum Width {
     Byte,
     Halfword,
@@ -26,14 +26,14 @@ pub enum Width {
 }
 
 // Whether Ry is added to the address of an operand.
-#[derive(Clone, Copy)]
+#[derive(Clone, Copy, PartialEq, Eq, Debug)]
 pub enum Indexing {
     Direct,
     Indexed,
 }
 
 // The carried instructions, by their mnemonics. A `Second` tells the register form from the immediate one.
-#[derive(Clone, Copy)]
+#[derive(Clone, Copy, PartialEq, Eq, Debug)]
 pub enum Kind {
     Move(Second),
     Neg,
@@ -79,7 +79,7 @@ pub enum Kind {
 }
 
 // What the fields and the displacement of an instruction stand for.
-#[derive(Clone, Copy)]
+#[derive(Clone, Copy, PartialEq, Eq, Debug)]
 pub enum Shape {
     // nothing
     Bare,
@@ -102,7 +102,7 @@ pub enum Shape {
 }
 
 // A cell of the opcode map.
-#[derive(Clone, Copy)]
+#[derive(Clone, Copy, PartialEq, Eq, Debug)]
 pub enum Opcode {
     // no instruction
     Empty,
@@ -115,7 +115,7 @@ pub enum Opcode {
 
 // One instruction: its kind, its size in bytes, the fields Rx and Ry, and the displacement as a word,
 // which is 0 where the format has none.
-#[derive(Clone, Copy)]
+#[derive(Clone, Copy, PartialEq, Eq, Debug)]
 pub struct Instruction {
     pub kind: Kind,
     pub size: u8,
