@@ -3,6 +3,7 @@
 -- | word              | what it is                                         |
 -- |-------------------|----------------------------------------------------|
 -- | `displacement_in` | the displacement in the bytes after the fields     |
+-- | `kind_in`         | the kind in a cell of the map, or why it has none  |
 -- | `instruction`     | the instruction of a kind that bytes are           |
 -- | `decoded_as`      | the same where the cell of the opcode is known     |
 -- | `decoded`         | what bytes are: a carried instruction, or why none |
@@ -22,6 +23,13 @@ displacement_in d =
     cond (length d == 0) 0
     (cond (length d == 2) (extended 16 (slice_index d 0 * 256 + slice_index d 1))
     (slice_index d 0 * 16777216 + slice_index d 1 * 65536 + slice_index d 2 * 256 + slice_index d 3))
+
+-- the kind in a cell of the map, or why it has none
+abbrev pub kind_in : Opcode → Result Kind Undecoded
+kind_in opcode.Empty = Err Empty
+kind_in opcode.NotCarried = Err NotCarried
+kind_in opcode.Kernel = Err Kernel
+kind_in (opcode.Carried k) = Ok k
 
 abbrev pub instruction : Kind → List ℕ → Instruction
 instruction k bs =

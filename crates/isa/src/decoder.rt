@@ -1,10 +1,10 @@
 // From the bytes of an instruction to the instruction.
 ghost use Rattle.std.specs.Prelude.{◌≡◌, ◌+◌, ◌*◌, length, IfOk, if◌then◌else◌, Some, None, nat_eq, slice_index};
-ghost use Rattle.isa.specs.Decoding.{decoded, displacement_in};
+ghost use Rattle.isa.specs.Decoding.{decoded, displacement_in, kind_in};
 ghost use Rattle.isa.specs.Formats.{Formatted, size_at};
 ghost use Rattle.words.specs.Extension.{extended};
 
-use super::kinds::{Instruction, Opcode, Undecoded};
+use super::kinds::{Instruction, Kind, Opcode, Undecoded};
 use super::table::lookup;
 use words::extend_displacement;
 
@@ -27,6 +27,22 @@ fn displacement(op: u8, d: &[u8]) -> Option<u32>
     }
 }
 
+// The kind in a carried cell, or why a cell has none.
+impl TryFrom<Opcode> for Kind {
+    type Error = Undecoded;
+
+    ghost try_from_gives = { λ cell r. r ≡ kind_in cell };
+
+    fn try_from(cell: Opcode) -> Result<Kind, Undecoded> {
+        match cell {
+            Opcode::Empty => Err(Undecoded::Empty),
+            Opcode::NotCarried => Err(Undecoded::NotCarried),
+            Opcode::Kernel => Err(Undecoded::Kernel),
+            Opcode::Carried(kind) => Ok(kind),
+        }
+    }
+}
+
 // The instruction that the bytes are. The opcode is judged first, so its two first bytes are enough
 // to tell an empty, not carried or kernel opcode.
 pub fn decode(bytes: &[u8]) -> Result<Instruction, Undecoded>
@@ -37,21 +53,13 @@ pub fn decode(bytes: &[u8]) -> Result<Instruction, Undecoded>
         return Err(Undecoded::WrongLength);
     };
     let (cell, size) = lookup(*op);
-    match cell {
-        Opcode::Empty => Err(Undecoded::Empty),
-        Opcode::NotCarried => Err(Undecoded::NotCarried),
-        Opcode::Kernel => Err(Undecoded::Kernel),
-        Opcode::Carried(kind) => {
-            let Some(displacement) = displacement(*op, d) else {
-                return Err(Undecoded::WrongLength);
-            };
-            Ok(Instruction {
-                kind,
-                size,
-                x: xy / 16,
-                y: xy % 16,
-                displacement,
-            })
-        }
-    }
+    let kind = Kind::try_from(cell)?;
+    let displacement = displacement(*op, d).ok_or(Undecoded::WrongLength)?;
+    Ok(Instruction {
+        kind,
+        size,
+        x: xy / 16,
+        y: xy % 16,
+        displacement,
+    })
 }
