@@ -3,9 +3,10 @@ use Rattle.std.proofs.Common.{◌≡◌, ℕ, ◌+◌, ◌/◌, ◌%◌, ◌<◌
 use lib.ListN.{length-replicate}
 use Rattle.std.specs.List.{flat_map}
 use Rattle.std.proofs.lemmas.List.{map-append}
+use Rattle.std.proofs.lemmas.List.Elements.{All-nil}
 use Rattle.image.specs.declared.records.Record.{Record}
 use Rattle.image.specs.declared.records.Section.{Section}
-use Rattle.image.specs.Format.{half, written, flat, block, bare}
+use Rattle.image.specs.Format.{half, written, section_of, flat, block, bare}
 use Rattle.image.specs.Reading.{Belong, Lists, Several, Block, Accepts, Stuck}
 use Rattle.image.proofs.Grammar.{Single, beyond, joined-append, accepts_on, stuck_on, stuck_in}
 use Rattle.image.proofs.Several.{One, accepts_one, stuck_one, blanks_own, blank, records_are}
@@ -88,7 +89,7 @@ cut (s ∷ ss) ss' (rs ∷ rss) h = let w = cut ss ss' rss h.1 in (rs ∷ w.0, w
 
 empty : (ss : List Section) → (rss : List (List Record)) × Sectioned ss rss
 empty [] = ([], tt)
-empty (s ∷ ss) = let w = empty ss in ([] ∷ w.0, (tt, w.1))
+empty (s ∷ ss) = let w = empty ss in ([] ∷ w.0, (All-nil (λ r. section_of r ≡ s), w.1))
 
 -- equal bytes are of the same sections
 pub sections_are : (ss : List Section) (xss yss : List (List Record)) (a b : List ℕ) → Sectioned ss xss → Sectioned ss yss → flat (flat_map block xss) ++ a ≡ flat (flat_map block yss) ++ b

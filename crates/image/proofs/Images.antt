@@ -1,8 +1,7 @@
 -- The five sections of an image.
-use Rattle.std.proofs.Common.{◌≡◌, ℕ, ◌+◌, ◌-◌, ◌<◌, true, false, eqb, List, [], ◌∷◌, ◌++◌, map, length, get_or, take, sym, refl, ap, ◌∙◌, subst, append-nil, arith, length-append}
+use Rattle.std.proofs.Common.{◌≡◌, ℕ, ◌+◌, ◌-◌, ◌<◌, Bool, true, false, eqb, List, [], ◌∷◌, ◌++◌, map, length, get_or, take, sym, refl, ap, ◌∙◌, subst, append-nil, arith, length-append}
 use Rattle.std.specs.List.{flat_map}
-use Rattle.std.proofs.lemmas.List.Elements.{filter-append, filter_more}
-use Rattle.std.proofs.ByRecursion.{kept_by_passes, All-weaker}
+use Rattle.std.proofs.lemmas.List.Elements.{All-head, All-tail, All-weaker, filter-append, filter_more, filter_passes}
 use Rattle.std.proofs.lemmas.Bool.{cond-true, cond-false, eqb-true, eq-eqb, ne_eqb}
 use Rattle.image.specs.declared.records.Record.{Record}
 use Rattle.image.specs.declared.records.Section.{Section}
@@ -25,7 +24,7 @@ number_is s t e = sym (back s) ∙ ap (λ n. get_or order n Admissions) e ∙ ba
 
 among-own : (s : Section) (rs : List Record) → Belong s rs → among s rs ≡ rs
 among-own s [] own = refl
-among-own s (r ∷ rs) own = cond-true _ _ _ (ap (λ t. eqb (number t) (number s)) own.0 ∙ same s) ∙ ap (λ l. r ∷ l) (among-own s rs own.1)
+among-own s (r ∷ rs) own = cond-true _ _ _ (ap (λ t. eqb (number t) (number s)) (All-head (λ r. section_of r ≡ s) r rs own) ∙ same s) ∙ ap (λ l. r ∷ l) (among-own s rs (All-tail (λ r. section_of r ≡ s) r rs own))
   where
     same : (s : Section) → eqb (number s) (number s) ≡ true
     same Admissions = refl
@@ -36,14 +35,16 @@ among-own s (r ∷ rs) own = cond-true _ _ _ (ap (λ t. eqb (number t) (number s
 
 among_other : (s t : Section) (rs : List Record) → eqb (number t) (number s) ≡ false → Belong t rs → among s rs ≡ []
 among_other s t [] apart own = refl
-among_other s t (r ∷ rs) apart own = cond-false _ _ _ (ap (λ t. eqb (number t) (number s)) own.0 ∙ apart) ∙ among_other s t rs apart own.1
+among_other s t (r ∷ rs) apart own = cond-false _ _ _ (ap (λ t. eqb (number t) (number s)) (All-head (λ r. section_of r ≡ t) r rs own) ∙ apart) ∙ among_other s t rs apart (All-tail (λ r. section_of r ≡ t) r rs own)
 
 among-flat : (s : Section) (rss : List (List Record)) → among s (flat rss) ≡ flat_map (among s) rss
 among-flat s [] = refl
 among-flat s (rs ∷ rss) = filter-append _ rs (flat rss) ∙ ap (λ l. among s rs ++ l) (among-flat s rss)
 
 pub among_belong : (s : Section) (rs : List Record) → Belong s (among s rs)
-among_belong s rs = All-weaker _ _ (λ r e. number_is (section_of r) s (eqb-true _ _ e)) (among s rs) (kept_by_passes _ rs)
+among_belong s rs =
+    let test : Record → Bool = λ r. eqb (number (section_of r)) (number s) in
+    All-weaker (λ r. test r ≡ true) (λ r. section_of r ≡ s) (λ r e. number_is (section_of r) s (eqb-true _ _ e)) (among s rs) (filter_passes test rs)
 
 -- one record more of a list: it is of the section, or not
 module _ (s : Section) (rs : List Record) (i : ℕ) (d : Record) (less : i < length rs) where

@@ -16,12 +16,8 @@ pub total-append : (xs ys : List Record) → total (xs ++ ys) ≡ total xs + tot
 total-append [] ys = omega arith
 total-append (x ∷ xs) ys = omega (arith, total-append xs ys)
 
--- one more record
-pub total-more : (rs : List Record) (i : ℕ) (d : Record) → i < length rs → total (take (i + 1) rs) ≡ total (take i rs) + length (written (get_or rs i d))
-total-more rs i d h = ap total (take_more rs i d h) ∙ total-append (take i rs) (get_or rs i d ∷ []) ∙ omega arith
-
-pub total-front : (rs : List Record) (i : ℕ) → total (take i rs) ≤ total rs
-total-front rs i = omega (arith, total-append (take i rs) (drop i rs), ap total (take-append-drop i rs))
+pub total-push : (rs : List Record) (r : Record) → total (rs ++ r ∷ []) ≡ total rs + length (written r)
+total-push rs r = total-append rs (r ∷ []) ∙ omega arith
 
 total-flat : (rs : List Record) → length (flat (map written rs)) ≡ total rs
 total-flat [] = refl
@@ -33,16 +29,6 @@ blocks_size (rs ∷ rss) = omega (arith, length-flat (block rs) (flat_map block 
 
 pub image-size : (rs : List Record) → Ordered rs → length (image rs) ≡ 10 + total rs
 image-size rs h = blocks_size (sections rs) ∙ ap (λ n. 10 + n) (ap total h)
-
--- bytes that are added at the end
-pub added : {E : Type 0} (r : Result (Unit {0}) E) (old new more bytes : List ℕ) → new ≡ cond (is_ok r) (old ++ more) old → more ≡ bytes → Adds old new bytes r
-added (Ok u) old new more bytes e f = e ∙ ap (λ l. old ++ l) f
-added (Err u) old new more bytes e f = tt
-
--- the same after others
-pub added-after : {E : Type 0} (r : Result (Unit {0}) E) (old mid new head bytes more : List ℕ) → mid ≡ old ++ head → head ≡ bytes → new ≡ cond (is_ok r) (mid ++ more) mid → Adds old new (bytes ++ more) r
-added-after (Ok u) old mid new head bytes more e f g = g ∙ ap (λ l. l ++ more) (e ∙ ap (λ l. old ++ l) f) ∙ append_assoc old bytes more
-added-after (Err u) old mid new head bytes more e f g = tt
 
 -- one record more of a section
 module _ (s : Section) (rs : List Record) (i : ℕ) (d : Record) (less : i < length rs) (start old new : List ℕ) (sofar : old ≡ start ++ flat (map written (among s (take i rs)))) where
@@ -58,9 +44,9 @@ module _ (s : Section) (rs : List Record) (i : ℕ) (d : Record) (less : i < len
   written_out never e = e ∙ sofar ∙ ap (λ l. start ++ flat (map written l)) (sym (among_out s rs i d less never))
 
 -- a count and the records after it
-pub written-block : (rs : List Record) (out start new count : List ℕ) (n : ℕ) → start ≡ out ++ count → count ≡ half n → n ≡ length rs → new ≡ start ++ flat (map written rs) → new ≡ out ++ flat (block rs)
-written-block rs out start new count n e f g h =
-    h ∙ ap (λ l. l ++ flat (map written rs)) (e ∙ ap (λ l. out ++ l) (f ∙ ap half g)) ∙ append_assoc out (half (length rs)) (flat (map written rs))
+pub written-block : (rs : List Record) (out start new : List ℕ) (n : ℕ) → start ≡ out ++ half n → n ≡ length rs → new ≡ start ++ flat (map written rs) → new ≡ out ++ flat (block rs)
+written-block rs out start new n e f g =
+    g ∙ ap (λ l. l ++ flat (map written rs)) (e ∙ ap (λ m. out ++ half m) f) ∙ append_assoc out (half (length rs)) (flat (map written rs))
 
 -- one section more of an image
 pub written_section : (rs : List Record) (ss ss' : List Section) (s : Section) (old new : List ℕ) → ss' ≡ ss ++ s ∷ [] → old ≡ flat (flat_map block (map (λ t. among t rs) ss)) → new ≡ old ++ flat (block (among s rs))

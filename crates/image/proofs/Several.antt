@@ -1,7 +1,7 @@
 -- One part, and several records of a section.
 use Rattle.std.proofs.Common.{◌≡◌, ℕ, zero, suc, ◌+◌, ◌-◌, ◌<◌, ◌≤◌, ◌⊎◌, List, [], ◌∷◌, ◌++◌, map, length, take, drop, replicate, sym, refl, ap, ◌∙◌, subst, inl, inr, ⊎_elim, append_assoc, append-nil, arith, length-append}
 use lib.ListN.{length-map, length-replicate}
-use Rattle.std.proofs.ByRecursion.{All-push, All-append, All-take, All-drop}
+use Rattle.std.proofs.lemmas.List.Elements.{All-nil, All-head, All-tail, All-push, All-append, All-take, All-drop, All-replicate}
 use Rattle.std.proofs.lemmas.List.{map-append, map_push, length_push, take-append-drop, length-take-le, length-drop}
 use Rattle.image.specs.declared.records.Record.{Record}
 use Rattle.image.specs.declared.records.Record.TheVariants.{Admit, Grant, Fill, Put, Run}
@@ -75,8 +75,7 @@ blank-own Puts = refl
 blank-own Runs = refl
 
 pub blanks_own : (s : Section) (n : ℕ) → Belong s (replicate n (blank s))
-blanks_own s zero = tt
-blanks_own s (suc n) = (blank-own s, blanks_own s n)
+blanks_own s n = All-replicate (λ r. section_of r ≡ s) n (blank s) (blank-own s)
 
 module _ (s : Section) where
   abbrev OfSection : Record → Type 0
@@ -95,8 +94,8 @@ module _ (s : Section) where
   records_are [] (y ∷ ys) a b p q l e = absurd (omega arith)
   records_are (x ∷ xs) [] a b p q l e = absurd (omega arith)
   records_are (x ∷ xs) (y ∷ ys) a b p q l e =
-      let one = record_is s x y _ _ p.0 q.0 (sym (append_assoc (written x) (flat (map written xs)) a) ∙ e ∙ append_assoc (written y) (flat (map written ys)) b) in
-      let more = records_are xs ys a b p.1 q.1 (omega arith) one.2 in
+      let one = record_is s x y _ _ (All-head OfSection x xs p) (All-head OfSection y ys q) (sym (append_assoc (written x) (flat (map written xs)) a) ∙ e ∙ append_assoc (written y) (flat (map written ys)) b) in
+      let more = records_are xs ys a b (All-tail OfSection x xs p) (All-tail OfSection y ys q) (omega arith) one.2 in
       ((λ i. one.1 i ∷ more.0 i), (λ i. one.0 i ∷ more.1 i), more.2)
 
   pub several_single : (n : ℕ) → Single (Several s n)
@@ -110,8 +109,8 @@ module _ (s : Section) where
       let long = l.1.1 in (
         take m all,
         drop m all,
-        (All-take _ m all l.1.0, length-take-le m all (omega arith)),
-        (All-drop _ m all l.1.0, length-drop m all ∙ ap (λ x. x - m) long),
+        (All-take OfSection m all l.1.0, length-take-le m all (omega arith)),
+        (All-drop OfSection m all l.1.0, length-drop m all ∙ ap (λ x. x - m) long),
         l.2 ∙ ap (map written) (sym (take-append-drop m all)) ∙ map-append written (take m all) (drop m all),
       )
 
@@ -122,16 +121,16 @@ module _ (s : Section) where
       go : (rs : List Record) × (left : List Record) × (Belong s rs × (length rs ≡ n)) × (Belong s left × (length left ≡ n + 1 - n)) × (ps ≡ map written rs ++ map written left)
           → (q : List (List ℕ)) × (q' : List (List ℕ)) × Several s n q × (ps ≡ q ++ q') × One OfSection written q'
       go (rs, [], own, last, e) = absurd (omega (arith, last.1))
-      go (rs, r ∷ [], own, last, e) = (map written rs, written r ∷ [], (rs, own, refl), e, (r, last.0.0, refl))
+      go (rs, r ∷ [], own, last, e) = (map written rs, written r ∷ [], (rs, own, refl), e, (r, All-head OfSection r [] last.0, refl))
       go (rs, r ∷ r' ∷ left, own, last, e) = absurd (omega (arith, last.1))
 
   pub several_none : (bs : List ℕ) → Accepts (Several s 0) bs [] bs
   several_none bs =
       record {
-        listed = ([], (tt, refl), refl);
+        listed = ([], (All-nil OfSection, refl), refl);
         front = refl;
         far = record {
-          reached = record { before = []; after = []; listed = ([], (tt, refl), refl); rest = bs; front = refl; long = refl };
+          reached = record { before = []; after = []; listed = ([], (All-nil OfSection, refl), refl); rest = bs; front = refl; long = refl };
           most = λ e r. omega (arith, nothing r.before r.after r.listed, r.long);
         };
       }
@@ -145,7 +144,7 @@ module _ (s : Section) where
   several_more {n} {bs} {rest} {after} rs r long owns own e first =
       subst (λ ps. Accepts (Several s (n + 1)) bs ps after) (sym (map_push written rs r))
       (accepts_on (Several s n) (One OfSection written) (Several s (n + 1)) (several_single n) (map written rs)
-      (λ q l. (rs ++ l.0 ∷ [], (All-push _ rs l.0 owns l.1, length_push rs l.0 ∙ ap (λ m. m + 1) long), ap (λ x. map written rs ++ x) l.2 ∙ sym (map_push written rs l.0)))
+      (λ q l. (rs ++ l.0 ∷ [], (All-push OfSection rs l.0 owns l.1, length_push rs l.0 ∙ ap (λ m. m + 1) long), ap (λ x. map written rs ++ x) l.2 ∙ sym (map_push written rs l.0)))
       (λ ps l. let w = last_of n ps l in (w.0, w.1, w.2, w.3, λ _. w.4))
       first (accepts_record r own e))
 
@@ -155,9 +154,9 @@ module _ (s : Section) where
       stuck_in (Several s (n + 1)) (Several s c)
       (λ q l.
       let more = replicate (c - (n + 1)) (blank s) in
-      (map written more, (l.0 ++ more, (All-append _ l.0 more l.1.0 (blanks_own s (c - (n + 1))), omega (arith, length-append l.0 more, length-replicate (c - (n + 1)) (blank s), l.1.1)), ap (λ x. x ++ map written more) l.2 ∙ sym (map-append written l.0 more))))
+      (map written more, (l.0 ++ more, (All-append OfSection l.0 more l.1.0 (blanks_own s (c - (n + 1))), omega (arith, length-append l.0 more, length-replicate (c - (n + 1)) (blank s), l.1.1)), ap (λ x. x ++ map written more) l.2 ∙ sym (map-append written l.0 more))))
       (λ ps l. let w = first_of (n + 1) c (omega arith) ps l in (map written w.0, map written w.1, (w.0, w.2, refl), w.4))
       (stuck_on (Several s n) (One OfSection written) (Several s (n + 1)) (several_single n) (map written rs)
-      (λ q l. (rs ++ l.0 ∷ [], (All-push _ rs l.0 owns l.1, length_push rs l.0 ∙ ap (λ m. m + 1) long), ap (λ x. map written rs ++ x) l.2 ∙ sym (map_push written rs l.0)))
+      (λ q l. (rs ++ l.0 ∷ [], (All-push OfSection rs l.0 owns l.1, length_push rs l.0 ∙ ap (λ m. m + 1) long), ap (λ x. map written rs ++ x) l.2 ∙ sym (map_push written rs l.0)))
       (λ ps l. let w = last_of n ps l in (w.0, w.1, w.2, w.3, λ _. w.4))
       first (stuck_record never))

@@ -15,9 +15,8 @@
 -- Refuses    the bytes are no image, and the offset is the farthest that they reach
 -- Fails      what an error says of the bytes
 -- refusal    number and value of each case of an error; want of memory is no refusal, and has 0
-use Rattle.std.specs.Prelude.{◌≡◌, ℕ, ◌+◌, ◌<◌, ◌≤◌, List, ◌++◌, map, length, Some, None, Ok, Err, Option, Result, ◌≢◌}
+use Rattle.std.specs.Prelude.{All, ◌≡◌, ℕ, ◌+◌, ◌<◌, ◌≤◌, List, ◌++◌, map, length, Some, None, Ok, Err, Option, Result, ◌≢◌}
 use Rattle.std.specs.Borrow.{Bor}
-use Rattle.std.specs.List.{AllByRecursion}
 use Rattle.image.specs.declared.errors.ReadError.{ReadError}
 use Rattle.image.specs.declared.errors.ReadError.TheVariants.{Unreadable, Memory}
 use Rattle.image.specs.Keeping.{Stored}
@@ -32,7 +31,7 @@ Taken s bs None = (r : Record) (rest : List ℕ) → section_of r ≡ s → bs �
 Taken s bs (Some x) = (section_of x.0 ≡ s) × (bs ≡ written x.0 ++ x.1.now)
 
 abbrev pub Belong : Section → List Record → Type 0
-Belong s rs = AllByRecursion (λ r. section_of r ≡ s) rs
+Belong s rs = All (λ r. section_of r ≡ s) rs
 
 abbrev pub Lists : {X : Type 0} → (X → Type 0) → (X → List (List ℕ)) → List (List ℕ) → Type 0
 Lists {X} P body ps = (x : X) × P x × (ps ≡ body x)

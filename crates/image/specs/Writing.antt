@@ -8,8 +8,7 @@
 -- Writable   the records keep all four rules
 -- Broken     what an error says of the records: its rule is broken, and those before it are kept
 -- Writes     the bytes are the image, and reading them gives the records again
-use Rattle.std.specs.Prelude.{◌≡◌, ℕ, ◌+◌, ◌≤◌, List, [], ◌∷◌, ◌++◌, map, length, Ok, Err, Result}
-use Rattle.std.specs.List.{AllByRecursion}
+use Rattle.std.specs.Prelude.{All, ◌≡◌, ℕ, ◌+◌, ◌≤◌, List, [], ◌∷◌, ◌++◌, map, length, Ok, Err, Result}
 use Rattle.image.specs.declared.errors.ReadError.{ReadError}
 use Rattle.image.specs.declared.errors.WriteError.{WriteError}
 use Rattle.image.specs.declared.errors.WriteError.TheVariants.{OutOfOrder, TooManyRecords, FillTooLong, ImageTooLong, Memory}
@@ -24,7 +23,7 @@ Adds old new bytes (Ok _) = new ≡ old ++ bytes
 Adds old new bytes (Err _) = Unit {0}
 
 abbrev pub Counted : List Record → Type 0
-Counted rs = AllByRecursion (λ s. length (among s rs) ≤ 65535) order
+Counted rs = All (λ s. length (among s rs) ≤ 65535) order
 
 abbrev pub Short : Record → Type 0
 Short (Admit a) = Unit {0}
@@ -43,14 +42,14 @@ Fits rs = length (image rs) ≤ 16384
 pub record Writable (rs : List Record) : Type 0 where
   pub ordered : Ordered rs
   pub counted : Counted rs
-  pub short : AllByRecursion Short rs
+  pub short : All Short rs
   pub fits : Fits rs
 
 abbrev pub Broken : List Record → WriteError → Type 0
 Broken rs OutOfOrder = Ordered rs → ⊥
 Broken rs TooManyRecords = Ordered rs × (Counted rs → ⊥)
-Broken rs FillTooLong = Ordered rs × Counted rs × (AllByRecursion Short rs → ⊥)
-Broken rs ImageTooLong = Ordered rs × Counted rs × AllByRecursion Short rs × (Fits rs → ⊥)
+Broken rs FillTooLong = Ordered rs × Counted rs × (All Short rs → ⊥)
+Broken rs ImageTooLong = Ordered rs × Counted rs × All Short rs × (Fits rs → ⊥)
 Broken rs Memory = Writable rs
 
 pub record Writes (rs : List Record) (bs : List ℕ) : Type 0 where

@@ -1,12 +1,15 @@
 // The records of a start image.
-ghost use Rattle.std.specs.Prelude.{◌≡◌, length};
+ghost use Rattle.std.specs.Prelude.{◌≡◌, ◌↔◌, IsTrue, length};
 ghost use Rattle.image.specs.Format.{section_of, written};
-ghost use Rattle.image.specs.Format.{number as place};
+ghost use Rattle.image.specs.Writing.{Short};
 
 use isa::Side;
 
 // An image has at most this many bytes.
 pub const LIMIT: usize = 16_384;
+
+// The largest count of a section, and the largest length of a fill.
+pub(crate) const LARGEST: usize = 65_535;
 
 // The number of the refusal of an image that cannot be read.
 pub const REFUSAL: u8 = 16;
@@ -68,8 +71,8 @@ pub struct Placed<'a> {
     pub record: Record<'a>,
 }
 
-// The sections of an image.
-#[derive(Clone, Copy, PartialEq, Eq)]
+// The sections of an image, in their order.
+#[derive(Clone, Copy, PartialEq, Eq, PartialOrd, Ord, Debug)]
 pub enum Section {
     Admissions,
     Grants,
@@ -78,7 +81,6 @@ pub enum Section {
     Runs,
 }
 
-// The sections, in their order.
 pub const SECTIONS: [Section; 5] = [
     Section::Admissions,
     Section::Grants,
@@ -86,15 +88,6 @@ pub const SECTIONS: [Section; 5] = [
     Section::Puts,
     Section::Runs,
 ];
-
-impl Section {
-    // The section's place in that order.
-    pub(crate) fn number(self) -> u8
-        ensures { result ≡ place self }
-    {
-        self as u8
-    }
-}
 
 impl Record<'_> {
     // The section that the record belongs to.
@@ -120,6 +113,16 @@ impl Record<'_> {
             Record::Fill(fill) => 8 + fill.bytes.len(),
             Record::Put(_) => 8,
             Record::Run(_) => 6,
+        }
+    }
+
+    // Whether the record is no fill of too many bytes.
+    pub(crate) fn is_short(&self) -> bool
+        ensures { IsTrue result ↔ Short self.now }
+    {
+        match self {
+            Record::Fill(fill) => fill.bytes.len() <= LARGEST,
+            _ => true,
         }
     }
 }

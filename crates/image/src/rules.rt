@@ -1,85 +1,54 @@
 // The rules that a list of records keeps if it has an image.
-ghost use Rattle.std.specs.Prelude.{◌≡◌, ◌+◌, ◌<◌, ◌≤◌, length, MatchBool, MatchResult};
+ghost use Rattle.std.specs.Prelude.{◌≡◌, ◌+◌, ◌-◌, ◌^◌, ◌≤◌, ◌↔◌, All, IsTrue, length, min, MatchResult};
 ghost use Rattle.image.specs.Format.{written, among, Ordered};
 ghost use Rattle.image.specs.Writing.{total, Counted, Short, Writable, Broken};
-ghost use Rattle.std.specs.List.{AllByRecursion};
 
 use super::errors::WriteError;
-use super::records::{LIMIT, Record, SECTIONS, Section};
-
-// The largest count of a section, and the largest length of a fill.
-const LARGEST: usize = 65_535;
+use super::records::{LARGEST, LIMIT, Record, SECTIONS, Section};
 
 // The bytes that the five counts of an image take.
 const COUNTS: usize = 10;
 
 // Whether the records follow the order of the sections.
 fn in_order(records: &[Record]) -> bool
-    ensures { MatchBool result (Ordered records.now) (Ordered records.now → ⊥) }
+    ensures { IsTrue result ↔ Ordered records.now }
 {
-    let mut least = 0;
-    for record in records {
-        let number = record.section().number();
-        if number < least {
-            return false;
-        }
-        least = number;
-    }
-    true
+    records.is_sorted_by_key(|record| record.section())
 }
 
 // How many records belong to a section.
 pub fn count(section: Section, records: &[Record]) -> usize
     ensures { result ≡ length (among section records.now) }
 {
-    let mut n = 0;
-    for record in records {
-        if record.section() == section {
-            n += 1;
-        }
-    }
-    n
+    records
+        .iter()
+        .filter(|record| record.section() == section)
+        .count()
 }
 
-// Whether no section has too many records.
-fn counts_fit(records: &[Record]) -> bool
-    ensures { MatchBool result (Counted records.now) (Counted records.now → ⊥) }
+// Whether none of some sections has too many records.
+fn counts_fit(sections: &[Section], records: &[Record]) -> bool
+    ensures { IsTrue result ↔ All (λ s. length (among s records.now) ≤ 65535) sections.now }
 {
-    for section in SECTIONS {
-        if count(section, records) > LARGEST {
-            return false;
-        }
-    }
-    true
+    sections
+        .iter()
+        .all(|section| count(*section, records) <= LARGEST)
 }
 
 // Whether no fill has too many bytes.
 fn fills_fit(records: &[Record]) -> bool
-    ensures { MatchBool result (AllByRecursion Short records.now) (AllByRecursion Short records.now → ⊥) }
+    ensures { IsTrue result ↔ All Short records.now }
 {
-    for record in records {
-        if let Record::Fill(fill) = record {
-            if fill.bytes.len() > LARGEST {
-                return false;
-            }
-        }
-    }
-    true
+    records.iter().all(Record::is_short)
 }
 
-// Whether the counts and records together are within the limit.
-fn image_fits(records: &[Record]) -> bool
-    ensures { MatchBool result (10 + total records.now ≤ 16384) (16384 < 10 + total records.now) }
+// How many bytes the counts and the records take together, or the most that a size can be.
+fn size(records: &[Record]) -> usize
+    ensures { result ≡ min (10 + total records.now) (2 ^ 64 - 1) }
 {
-    let mut left = LIMIT - COUNTS;
-    for record in records {
-        let size = record.size();
-        if size > left {
-            return false;
-        }
-        left -= size;
-    }
-    true
+    records
+        .iter()
+        .fold(COUNTS, |size, record| size.saturating_add(record.size()))
 }
 
 // The first rule that the records break.
@@ -89,13 +58,13 @@ pub fn check(records: &[Record]) -> Result<(), WriteError>
     if !in_order(records) {
         return Err(WriteError::OutOfOrder);
     }
-    if !counts_fit(records) {
+    if !counts_fit(&SECTIONS, records) {
         return Err(WriteError::TooManyRecords);
     }
     if !fills_fit(records) {
         return Err(WriteError::FillTooLong);
     }
-    if !image_fits(records) {
+    if size(records) > LIMIT {
         return Err(WriteError::ImageTooLong);
     }
     Ok(())

@@ -1,7 +1,6 @@
 // Writing a list of records as an image.
-ghost use Rattle.std.specs.Prelude.{◌≡◌, ◌≤◌, length, MatchResult};
-ghost use Rattle.std.specs.List.{AllByRecursion};
-ghost use Rattle.image.specs.Format.{half, word, written, among, flat, block};
+ghost use Rattle.std.specs.Prelude.{◌≡◌, ◌≤◌, ℕ, List, All, length, MatchResult};
+ghost use Rattle.image.specs.Format.{half, word, side_number, written, among, flat, block};
 ghost use Rattle.image.specs.Writing.{Adds, Short, Broken, Writes};
 ghost use Rattle.image.specs.declared.records.Record.TheVariants.{Admit, Grant as GrantOf, Fill as FillOf, Put as PutOf, Run as RunOf};
 
@@ -11,96 +10,143 @@ use super::rules;
 use isa::Side;
 use std::alloc::{AllocError, Global};
 
-// 16 bits, the most significant byte first.
-fn two_bytes(n: u16) -> [u8; 2]
-    ensures { result ≡ half n }
-{
-    n.to_be_bytes()
+// What has bytes in an image. Numbers have their most significant byte first.
+trait Encode: Copy {
+    ghost bytes: { Self → List ℕ };
+
+    // What is not too long for its length to be written.
+    ghost fits: { Self → Type 0 };
+
+    // Adds the bytes to `out`.
+    fn encode(self, out: &mut Vec<u8>) -> Result<(), AllocError>
+        requires { fits self }
+        ensures { Adds out.old.items out.new.items (bytes self) result };
 }
 
-// 32 bits, the most significant byte first.
-fn four_bytes(n: u32) -> [u8; 4]
-    ensures { result ≡ word n }
-{
-    n.to_be_bytes()
+impl Encode for u16 {
+    ghost bytes = { half };
+
+    ghost fits = { λ _. Unit {0} };
+
+    fn encode(self, out: &mut Vec<u8>) -> Result<(), AllocError> {
+        out.extend_from_slice(&self.to_be_bytes())
+    }
 }
 
-fn admission(out: &mut Vec<u8>, admission: Admission) -> Result<(), AllocError>
-    ensures { Adds out.old.items out.new.items (written (Admit admission)) result }
-{
-    let [p0, p1] = two_bytes(admission.p);
-    let [f0, f1] = two_bytes(admission.first);
-    let [c0, c1] = two_bytes(admission.count);
-    out.extend_from_slice(&[p0, p1, f0, f1, c0, c1])
+impl Encode for u32 {
+    ghost bytes = { word };
+
+    ghost fits = { λ _. Unit {0} };
+
+    fn encode(self, out: &mut Vec<u8>) -> Result<(), AllocError> {
+        out.extend_from_slice(&self.to_be_bytes())
+    }
 }
 
-fn grant(out: &mut Vec<u8>, grant: Grant) -> Result<(), AllocError>
-    ensures { Adds out.old.items out.new.items (written (GrantOf grant)) result }
-{
-    let [p0, p1] = two_bytes(grant.p);
-    let side = match grant.side {
-        Side::Code => 0,
-        Side::Data => 1,
-    };
-    let [s0, s1] = two_bytes(side);
-    let [g0, g1, g2, g3] = four_bytes(grant.page);
-    let [k0, k1] = two_bytes(grant.k);
-    out.extend_from_slice(&[p0, p1, s0, s1, g0, g1, g2, g3, k0, k1])
+impl Encode for Admission {
+    ghost bytes = { λ a. written (Admit a) };
+
+    ghost fits = { λ _. Unit {0} };
+
+    fn encode(self, out: &mut Vec<u8>) -> Result<(), AllocError> {
+        self.p.encode(out)?;
+        self.first.encode(out)?;
+        self.count.encode(out)
+    }
 }
 
-fn fill(out: &mut Vec<u8>, fill: Fill) -> Result<(), AllocError>
-    requires { length fill.bytes.now ≤ 65535 }
-    ensures { Adds out.old.items out.new.items (written (FillOf fill.entry)) result }
-{
-    let [p0, p1] = two_bytes(fill.p);
-    let [k0, k1] = two_bytes(fill.k);
-    let [o0, o1] = two_bytes(fill.offset);
-    let [n0, n1] = two_bytes(fill.bytes.len() as u16);
-    out.extend_from_slice(&[p0, p1, k0, k1, o0, o1, n0, n1])?;
-    out.extend_from_slice(fill.bytes)
+impl Encode for Grant {
+    ghost bytes = { λ g. written (GrantOf g) };
+
+    ghost fits = { λ _. Unit {0} };
+
+    fn encode(self, out: &mut Vec<u8>) -> Result<(), AllocError> {
+        self.p.encode(out)?;
+        self.side.encode(out)?;
+        self.page.encode(out)?;
+        self.k.encode(out)
+    }
 }
 
-fn put(out: &mut Vec<u8>, put: Put) -> Result<(), AllocError>
-    ensures { Adds out.old.items out.new.items (written (PutOf put)) result }
-{
-    let [p0, p1] = two_bytes(put.p);
-    let [r0, r1] = two_bytes(put.r);
-    let [v0, v1, v2, v3] = four_bytes(put.value);
-    out.extend_from_slice(&[p0, p1, r0, r1, v0, v1, v2, v3])
+impl Encode for Side {
+    ghost bytes = { λ s. half (side_number s) };
+
+    ghost fits = { λ _. Unit {0} };
+
+    fn encode(self, out: &mut Vec<u8>) -> Result<(), AllocError> {
+        let number: u16 = match self {
+            Side::Code => 0,
+            Side::Data => 1,
+        };
+        number.encode(out)
+    }
 }
 
-fn run(out: &mut Vec<u8>, run: Run) -> Result<(), AllocError>
-    ensures { Adds out.old.items out.new.items (written (RunOf run)) result }
-{
-    let [p0, p1] = two_bytes(run.p);
-    let [n0, n1, n2, n3] = four_bytes(run.n);
-    out.extend_from_slice(&[p0, p1, n0, n1, n2, n3])
+impl Encode for Fill<'_> {
+    ghost bytes = { λ f. written (FillOf f) };
+
+    ghost fits = { λ f. length f.bytes.now ≤ 65535 };
+
+    fn encode(self, out: &mut Vec<u8>) -> Result<(), AllocError> {
+        let length = self.bytes.len() as u16;
+        self.p.encode(out)?;
+        self.k.encode(out)?;
+        self.offset.encode(out)?;
+        length.encode(out)?;
+        out.extend_from_slice(self.bytes)
+    }
 }
 
-// Adds the bytes of a record to `out`.
-fn write_record(out: &mut Vec<u8>, record: &Record) -> Result<(), AllocError>
-    requires { Short «record».now }
-    ensures { Adds out.old.items out.new.items (written «record».now) result }
-{
-    match *record {
-        Record::Admit(a) => admission(out, a),
-        Record::Grant(g) => grant(out, g),
-        Record::Fill(f) => fill(out, f),
-        Record::Put(u) => put(out, u),
-        Record::Run(e) => run(out, e),
+impl Encode for Put {
+    ghost bytes = { λ u. written (PutOf u) };
+
+    ghost fits = { λ _. Unit {0} };
+
+    fn encode(self, out: &mut Vec<u8>) -> Result<(), AllocError> {
+        self.p.encode(out)?;
+        self.r.encode(out)?;
+        self.value.encode(out)
+    }
+}
+
+impl Encode for Run {
+    ghost bytes = { λ e. written (RunOf e) };
+
+    ghost fits = { λ _. Unit {0} };
+
+    fn encode(self, out: &mut Vec<u8>) -> Result<(), AllocError> {
+        self.p.encode(out)?;
+        self.n.encode(out)
+    }
+}
+
+impl Encode for Record<'_> {
+    ghost bytes = { written };
+
+    ghost fits = { Short };
+
+    fn encode(self, out: &mut Vec<u8>) -> Result<(), AllocError> {
+        match self {
+            Record::Admit(a) => a.encode(out),
+            Record::Grant(g) => g.encode(out),
+            Record::Fill(f) => f.encode(out),
+            Record::Put(u) => u.encode(out),
+            Record::Run(e) => e.encode(out),
+        }
     }
 }
 
 // Adds a section to `out`: its count, then those records that belong to it.
 fn write_section(out: &mut Vec<u8>, section: Section, records: &[Record]) -> Result<(), AllocError>
-    requires { (length (among section records.now) ≤ 65535) × (AllByRecursion Short records.now) }
+    requires counted { length (among section records.now) ≤ 65535 }
+    requires short { All Short records.now }
     ensures { Adds out.old.items out.new.items (flat (block (among section records.now))) result }
 {
-    let count = two_bytes(rules::count(section, records) as u16);
-    out.extend_from_slice(&count)?;
+    let count = rules::count(section, records) as u16;
+    count.encode(out)?;
     for record in records {
         if record.section() == section {
-            write_record(out, record)?;
+            record.encode(out)?;
         }
     }
     Ok(())

@@ -2,17 +2,21 @@ use Rattle.std.proofs.Common.{arith}
 use Rattle.image.proofs.Kept.{image-size}
 use Rattle.image.proofs.rules.check.Goals as goal
 
-pub returns-then-not-image_fits : goal.returns-then-not-image_fits
-returns-then-not-image_fits c =
-    let ordered = c.if-not-in_order.ensures in
-    (ordered, c.if-not-counts_fit.ensures, c.if-not-fills_fit.ensures, λ fits. omega (arith, fits, image-size _ ordered, c.if-not-image_fits.ensures))
+pub returns-then-size-gt-LIMIT : goal.returns-then-size-gt-LIMIT
+returns-then-size-gt-LIMIT c =
+    let ordered = c.in_order.ensures.0 c.if-not-in_order.false in (
+      ordered,
+      c.counts_fit.ensures.0 c.if-not-counts_fit.false,
+      c.fills_fit.ensures.0 c.if-not-fills_fit.false,
+      λ fits. omega (arith, fits, image-size _ ordered, c.size.ensures, c.if-size-gt-LIMIT.true),
+    )
 
 pub returns : goal.returns
 returns c =
-    let ordered = c.if-not-in_order.ensures in
+    let ordered = c.in_order.ensures.0 c.if-not-in_order.false in
     record {
       ordered = ordered;
-      counted = c.if-not-counts_fit.ensures;
-      short = c.if-not-fills_fit.ensures;
-      fits = omega (arith, image-size _ ordered, c.if-not-image_fits.ensures);
+      counted = c.counts_fit.ensures.0 c.if-not-counts_fit.false;
+      short = c.fills_fit.ensures.0 c.if-not-fills_fit.false;
+      fits = omega (arith, image-size _ ordered, c.size.ensures, c.if-size-gt-LIMIT.false);
     }
