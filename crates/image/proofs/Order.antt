@@ -124,8 +124,9 @@ in_order_is rs true h = (λ _. ordered_up 0 rs (up rs h), λ _. refl)
     up : (rs : List Record) → AllAdjacentBelow (λ x y. Rising x y true) rs (length rs) → Up 0 rs
     up [] h = tt
     up (r ∷ rs) h = (omega arith, up_pairs r rs h)
-in_order_is rs false h =
-    (λ e. absurd (true≢false (sym e)),
-    λ ordered.
-        let pair = pairs_up h.0 (h.0 + 1) 0 rs (blank Admissions) refl h.1 (up_ordered rs ordered) in
-        absurd (true≢false (sym (le-leb _ _ pair) ∙ sym (rises_is _ _) ∙ sym (h.2 (blank Admissions)))))
+in_order_is rs false h = (
+  λ e. absurd (true≢false (sym e)),
+  λ ordered.
+      let pair = pairs_up h.0 (h.0 + 1) 0 rs (blank Admissions) refl h.1 (up_ordered rs ordered) in
+      absurd (true≢false (sym (le-leb _ _ pair) ∙ sym (rises_is _ _) ∙ sym (h.2 (blank Admissions)))),
+)

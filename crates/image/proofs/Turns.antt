@@ -1,16 +1,18 @@
 -- What the turns of the two loops keep.
-use Rattle.std.proofs.Common.{◌≡◌, ℕ, ◌+◌, ◌-◌, ◌<◌, ◌≤◌, false, List, [], ◌∷◌, ◌++◌, map, length, Ok, Err, vec_items, Result, sym, refl, ap, ◌∙◌, subst, append_assoc, append-nil, arith, length-append, Bor}
+use Rattle.std.proofs.Common.{◌≡◌, ℕ, ◌+◌, ◌-◌, ◌<◌, ◌≤◌, List, [], ◌∷◌, ◌++◌, map, length, Ok, Err, Result, IfOk, MatchResult, vec_items, sym, refl, ap, ◌∙◌, subst, append_assoc, append-nil, arith, length-append}
 use Rattle.std.specs.List.{flat_map}
 use Rattle.image.specs.declared.errors.ReadError.TheVariants.{Unreadable, Memory}
-use Rattle.std.proofs.ByRecursion.{All-push}
+use Rattle.std.specs.Result.{IsErrAnd}
 use Rattle.std.proofs.lemmas.List.{length_push, nil_from_length}
-use Rattle.image.specs.Keeping.{Stored}
-use Rattle.image.specs.declared.keeping.Kept.{Kept}
+use Rattle.std.proofs.lemmas.List.Elements.{All-nil, All-push}
+use Rattle.std.proofs.lemmas.Result.{IfOk-weaker}
+use Rattle.image.specs.declared.errors.ReadError.{ReadError}
+use Rattle.image.specs.declared.reader.Reader.{Reader}
 use Rattle.image.specs.declared.records.Placed.{Placed}
 use Rattle.image.specs.declared.records.Record.{Record}
 use Rattle.image.specs.declared.records.Section.{Section}
 use Rattle.image.specs.Format.{half, written, section_of, order, flat, block, places, stand}
-use Rattle.image.specs.Reading.{Belong, Several, Block, Accepts, Stuck, Took, Reads, Refuses, Fails}
+use Rattle.image.specs.Reading.{Belong, Several, Block, Accepts, Stuck, Began, Stored, Took, Reads, Refuses, Fails, offset_of}
 use Rattle.image.proofs.Grammar.{length-flat}
 use Rattle.image.proofs.Images.{reads, refuses_stuck, refuses_rest}
 use Rattle.image.proofs.Several.{several_none, several_more, several_stuck}
@@ -29,109 +31,136 @@ stand_push o (x ∷ rss) rs =
     ap (λ l. places (o + 2) x ++ l) (stand_push (o + length (flat (block x))) rss rs) ∙ sym (append_assoc (places (o + 2) x) _ _)
     ∙ ap (λ n. (places (o + 2) x ++ stand (o + length (flat (block x))) rss) ++ places n rs) e
 
--- one more addition
-stored_on : (old mid new : Kept) (xs ys zs : List Placed) → Stored old mid xs → Stored mid new ys → xs ++ ys ≡ zs → Stored old new zs
-stored_on old mid new xs ys zs p q e kept =
-    let second = q kept in
-    let first = p second.0 in
-    (first.0, second.1 ∙ ap (λ l. l ++ ys) first.1 ∙ append_assoc (vec_items old.records) xs ys ∙ ap (λ l. vec_items old.records ++ l) e)
+-- what is kept of a list in case of success, and additions one after another
+module _ {V E : Type 0} (items : V → List Placed) where
+  abbrev Kept : Result V E → Result V E → List Placed → Type 0
+  Kept old new xs = IfOk new (λ w. MatchResult old (λ v. items w ≡ items v ++ xs) (λ e. ⊥))
 
--- n records of a section are taken off bs, and the rest is left
-pub record Sofar (s : Section) (n start : ℕ) (bs : List ℕ) (old new : Kept) (rest : List ℕ) : Type 0 where
+  kept_none : (r : Result V E) → Kept r r []
+  kept_none (Ok v) = sym (append-nil (items v))
+  kept_none (Err e) = tt
+
+  kept_on : (old mid new : Result V E) (xs ys zs : List Placed) → Kept old mid xs → Kept mid new ys → xs ++ ys ≡ zs → Kept old new zs
+  kept_on old mid (Err e) xs ys zs p q f = tt
+  kept_on old (Err e) (Ok w) xs ys zs p q f = absurd q
+  kept_on (Err e) (Ok v) (Ok w) xs ys zs p q f = absurd p
+  kept_on (Ok u) (Ok v) (Ok w) xs ys zs p q f = q ∙ ap (λ l. l ++ ys) p ∙ append_assoc (items u) xs ys ∙ ap (λ l. items u ++ l) f
+
+  listed_on : (old new : Result V E) (a xs b : List Placed) → IfOk old (λ v. items v ≡ a) → Kept old new xs → a ++ xs ≡ b → IfOk new (λ w. items w ≡ b)
+  listed_on old (Err e) a xs b p q f = tt
+  listed_on (Err e) (Ok w) a xs b p q f = absurd q
+  listed_on (Ok v) (Ok w) a xs b p q f = q ∙ ap (λ l. l ++ xs) p ∙ f
+
+-- n records of a section are taken off the bytes of a reader
+pub record Sofar (s : Section) (n : ℕ) (old new : Reader) : Type 0 where
   pub taken : List Record
   pub own : Belong s taken
   pub count : length taken ≡ n
-  pub listed : Stored old new (places start taken)
-  pub all : Accepts (Several s n) bs (map written taken) rest
+  pub size : new.size ≡ old.size
+  pub listed : Stored old new (places (offset_of old) taken)
+  pub all : Accepts (Several s n) old.rest.now (map written taken) new.rest.now
 
-pub sofar_none : (s : Section) (start : ℕ) (bs : List ℕ) (old : Kept) → Sofar s 0 start bs old old bs
-sofar_none s start bs old = record { taken = []; own = tt; count = refl; listed = λ kept. (kept, sym (append-nil (vec_items old.records))); all = several_none s bs }
+pub sofar_none : (s : Section) (old : Reader) → Sofar s 0 old old
+sofar_none s old =
+    record { taken = []; own = All-nil (λ r. section_of r ≡ s); count = refl; size = refl; listed = kept_none vec_items old.records; all = several_none s old.rest.now }
 
-module _ {s : Section} {n start : ℕ} {bs rest : List ℕ} {old new : Kept} (h : Sofar s n start bs old new rest) where
-  size : length bs ≡ length (flat (map written h.taken)) + length rest
-  size = ap length h.all.front ∙ length-append (flat (map written h.taken)) rest
+module _ {s : Section} {n : ℕ} {old new : Reader} (h : Sofar s n old new) where
+  span : offset_of new ≡ offset_of old + length (flat (map written h.taken))
+  span = omega (arith, old.within, h.size, ap length h.all.front, length-append (flat (map written h.taken)) new.rest.now)
 
-  pub sofar_fits : length rest ≤ length bs
-  sofar_fits = omega (arith, size)
-
-  pub sofar_more : (o : ℕ) (r : Record) (new' : Kept) (after : List ℕ) → Stored new new' (record { offset = o; «record» = r } ∷ []) → section_of r ≡ s → rest ≡ written r ++ after → o + length rest ≡ start + length bs
-      → Sofar s (n + 1) start bs old new' after
-  sofar_more o r new' after pushed own e offset =
-      let here : start + length (flat (map written h.taken)) ≡ o = omega (arith, size) in
+  pub sofar_more : (r : Record) (next : Reader) → section_of r ≡ s → new.rest.now ≡ written r ++ next.rest.now → next.size ≡ new.size → Stored new next (record { offset = offset_of new; «record» = r } ∷ [])
+      → Sofar s (n + 1) old next
+  sofar_more r next own e size pushed =
       record {
         taken = h.taken ++ r ∷ [];
-        own = All-push _ h.taken r h.own own;
+        own = All-push (λ r. section_of r ≡ s) h.taken r h.own own;
         count = length_push h.taken r ∙ ap (λ m. m + 1) h.count;
-        listed = stored_on old new new' (places start h.taken) (record { offset = o; «record» = r } ∷ []) _ h.listed pushed
-            ((λ i. places start h.taken ++ record { offset = sym here i; «record» = r } ∷ []) ∙ sym (places_push start h.taken r));
+        size = size ∙ h.size;
+        listed = kept_on vec_items old.records new.records next.records (places (offset_of old) h.taken) (record { offset = offset_of new; «record» = r } ∷ []) _ h.listed pushed
+            ((λ i. places (offset_of old) h.taken ++ record { offset = span i; «record» = r } ∷ []) ∙ sym (places_push (offset_of old) h.taken r));
         all = several_more s h.taken r h.count h.own own e h.all;
       }
 
-  pub sofar_stuck : (o c : ℕ) → n < c → ((r : Record) (left : List ℕ) → section_of r ≡ s → rest ≡ written r ++ left → ⊥) → o + length rest ≡ start + length bs
-      → (d : ℕ) × (o ≡ start + d) × Stuck (Several s c) bs d
-  sofar_stuck o c less never offset = (length (flat (map written h.taken)) + 0, omega (arith, size), several_stuck s h.taken h.count h.own less never h.all)
+  pub sofar_stuck : (c : ℕ) (e : ReadError) → n < c → ((r : Record) (left : List ℕ) → section_of r ≡ s → new.rest.now ≡ written r ++ left → ⊥) → e ≡ Unreadable (offset_of new)
+      → (d : ℕ) × (e ≡ Unreadable (offset_of old + d)) × Stuck (Several s c) old.rest.now d
+  sofar_stuck c e less never is =
+      let far : offset_of new ≡ offset_of old + (length (flat (map written h.taken)) + 0) = omega (arith, span) in
+      (length (flat (map written h.taken)) + 0, is ∙ ap (λ o. Unreadable o) far, several_stuck s h.taken h.count h.own less never h.all)
 
-  pub sofar_all : (c : ℕ) → n ≡ c → (rs : List Record) × (Belong s rs × (length rs ≡ c)) × Stored old new (places (start + 0) rs) × Accepts (Several s c) bs (map written rs) rest
+  pub sofar_all : (c : ℕ) → n ≡ c → (rs : List Record) × (Belong s rs × (length rs ≡ c)) × (new.size ≡ old.size) × Stored old new (places (offset_of old + 0) rs) × Accepts (Several s c) old.rest.now (map written rs) new.rest.now
   sofar_all c e =
-      let zero : start ≡ start + 0 = omega arith in
-      (h.taken, (h.own, h.count ∙ e), subst (λ m. Stored old new (places m h.taken)) zero h.listed, subst (λ m. Accepts (Several s m) bs (map written h.taken) rest) e h.all)
+      let start : offset_of old ≡ offset_of old + 0 = omega arith in
+      (h.taken, (h.own, h.count ∙ e), h.size, subst (λ o. Stored old new (places o h.taken)) start h.listed, subst (λ m. Accepts (Several s m) old.rest.now (map written h.taken) new.rest.now) e h.all)
 
--- a count and then that many records are a section
-pub section_took : (s : Section) (n start next : ℕ) {bs rest : List ℕ} (old new : Kept) (r : Result (Bor (List ℕ)) ℕ) → bs ≡ half n ++ rest → next ≡ start + 2
-    → Took (λ rs. Belong s rs × (length rs ≡ n)) (map written) 0 next rest old new r → Took (Belong s) block 2 start bs old new r
-section_took s n start next {bs} {rest} old new (Ok after) e f w =
-    let here : next + 0 ≡ start + 2 = omega arith in
-    (w.0, w.1.0, subst (λ m. Stored old new (places m w.0)) here w.2, subst (λ m. Accepts (Block s) bs (half m ∷ map written w.0) after.now) (sym w.1.1) (block_on s n e w.3))
-section_took s n start next old new (Err o) e f w = (2 + w.0, omega (arith, w.1), block_stuck s n e w.2)
+-- a count of n, and then n records
+pub section_took : (s : Section) (n : ℕ) (old mid new : Reader) (r : Result (Unit {0}) ReadError) → old.rest.now ≡ half n ++ mid.rest.now → mid.size ≡ old.size → mid.records ≡ old.records
+    → Took (λ rs. Belong s rs × (length rs ≡ n)) (map written) 0 mid new r → Took (Belong s) block 2 old new r
+section_took s n old mid new (Ok u) e size same w =
+    let here : offset_of mid + 0 ≡ offset_of old + 2 = omega (arith, old.within, size, ap length e) in (
+      w.0,
+      w.1.0,
+      w.2 ∙ size,
+      subst (λ x. Kept vec_items x new.records (places (offset_of old + 2) w.0)) same (subst (λ o. Stored mid new (places o w.0)) here w.3),
+      subst (λ m. Accepts (Block s) old.rest.now (half m ∷ map written w.0) new.rest.now) (sym w.1.1) (block_on s n e w.4),
+    )
+section_took s n old mid new (Err x) e size same w =
+    let here : offset_of mid + w.0 ≡ offset_of old + (2 + w.0) = omega (arith, old.within, size, ap length e) in
+    (2 + w.0, w.1 ∙ ap (λ o. Unreadable o) here, block_stuck s n e w.2)
 
--- some sections are taken off bs, and the rest is left
-pub record Walked (ss : List Section) (bs : List ℕ) (out : Kept) (rest : List ℕ) : Type 0 where
+-- some sections are taken off the bytes of an image
+pub record Walked (ss : List Section) (bs : List ℕ) (now : Reader) : Type 0 where
   pub taken : List (List Record)
   pub own : Sectioned ss taken
-  pub listed : out.lost ≡ false → vec_items out.records ≡ stand 0 taken
-  pub all : Accepts (Blocks ss) bs (flat_map block taken) rest
+  pub size : now.size ≡ length bs
+  pub listed : IfOk now.records (λ v. vec_items v ≡ stand 0 taken)
+  pub all : Accepts (Blocks ss) bs (flat_map block taken) now.rest.now
 
-pub walked_none : (bs : List ℕ) (out : Kept) → vec_items out.records ≡ [] → Walked [] bs out bs
-walked_none bs out e = record { taken = []; own = tt; listed = λ _. e; all = blocks_none bs }
+pub walked_none : (bs : List ℕ) (now : Reader) → Began bs now → Walked [] bs now
+walked_none bs now h = record { taken = []; own = tt; size = h.size; listed = h.none; all = subst (Accepts (Blocks []) bs []) (sym h.rest) (blocks_none bs) }
 
-module _ {ss : List Section} {bs rest : List ℕ} {out : Kept} (h : Walked ss bs out rest) where
-  span : length bs ≡ length (flat (flat_map block h.taken)) + length rest
-  span = ap length h.all.front ∙ length-append (flat (flat_map block h.taken)) rest
+module _ {ss : List Section} {bs : List ℕ} {now : Reader} (h : Walked ss bs now) where
+  reach : offset_of now ≡ length (flat (flat_map block h.taken))
+  reach = omega (arith, h.size, ap length h.all.front, length-append (flat (flat_map block h.taken)) now.rest.now)
 
-  pub walked_fits : length rest ≤ length bs
-  walked_fits = omega (arith, span)
-
-  pub walked_more : (s : Section) (ss' : List Section) (rs : List Record) (new : Kept) (after : List ℕ) → ss' ≡ ss ++ s ∷ [] → Belong s rs → Stored out new (places (length bs - length rest + 2) rs) → Accepts (Block s) rest (block rs) after
-      → Walked ss' bs new after
-  walked_more s ss' rs new after one own e next =
-      let here : length bs - length rest + 2 ≡ 0 + length (flat (flat_map block h.taken)) + 2 = omega (arith, span) in
-      subst (λ x. Walked x bs new after) (sym one) (record {
+  pub walked_more : (s : Section) (ss' : List Section) (next : Reader) → ss' ≡ ss ++ s ∷ [] → Took (Belong s) block 2 now next (Ok tt) → Walked ss' bs next
+  walked_more s ss' next one (rs, own, size, kept, more) =
+      let here : offset_of now + 2 ≡ 0 + length (flat (flat_map block h.taken)) + 2 = omega (arith, reach) in
+      subst (λ x. Walked x bs next) (sym one) (record {
         taken = h.taken ++ rs ∷ [];
         own = owns_more ss s h.taken h.own rs own;
-        listed = λ kept. let both = e kept in both.1 ∙ (λ i. h.listed both.0 i ++ places (here i) rs) ∙ sym (stand_push 0 h.taken rs);
-        all = blocks_on ss s h.taken h.own h.all rs next;
+        size = size ∙ h.size;
+        listed = listed_on vec_items now.records next.records (stand 0 h.taken) (places (offset_of now + 2) rs) _ h.listed kept ((λ i. stand 0 h.taken ++ places (here i) rs) ∙ sym (stand_push 0 h.taken rs));
+        all = blocks_on ss s h.taken h.own h.all rs more;
       })
 
-  pub walked_fails : (s : Section) (later : List Section) (new : Kept) (o : ℕ) → order ≡ (ss ++ s ∷ []) ++ later → length bs ≤ 16384
-      → Took (Belong s) block 2 (length bs - length rest) rest out new (Err o) → Fails bs (Unreadable o)
-  walked_fails s later new o all within (d, e, next) =
-      let here : length (flat (flat_map block h.taken)) + d ≡ o = omega (arith, span) in (
+  pub walked_fails : (s : Section) (later : List Section) (next : Reader) (e : ReadError) → order ≡ (ss ++ s ∷ []) ++ later → length bs ≤ 16384
+      → Took (Belong s) block 2 now next (Err e) → Fails bs e
+  walked_fails s later next e all within (d, is, more) =
+      let here : length (flat (flat_map block h.taken)) + d ≡ offset_of now + d = omega (arith, reach) in
+      subst (Fails bs) (sym is) (
         λ over. absurd (omega arith),
-        λ _. refuses_stuck bs o (subst (λ x. Stuck (Blocks x) bs o) (sym all) (subst (Stuck (Blocks ((ss ++ s ∷ []) ++ later)) bs) here (blocks_stuck ss s h.taken h.own h.all later next))),
+        λ _. refuses_stuck bs (offset_of now + d) (subst (λ x. Stuck (Blocks x) bs (offset_of now + d)) (sym all) (subst (Stuck (Blocks ((ss ++ s ∷ []) ++ later)) bs) here (blocks_stuck ss s h.taken h.own h.all later more))),
       )
 
--- all sections are taken off bs
-module _ {ss : List Section} {bs rest : List ℕ} {out : Kept} (part : Walked ss bs out rest) (over : ss ≡ order) where
-  whole : Walked order bs out rest
-  whole = subst (λ x. Walked x bs out rest) over part
+-- all sections are taken off the bytes of an image
+module _ {ss : List Section} {bs : List ℕ} {now : Reader} (part : Walked ss bs now) (over : ss ≡ order) where
+  whole : Walked order bs now
+  whole = subst (λ x. Walked x bs now) over part
 
-  pub walked_reads : length rest ≡ 0 → out.lost ≡ false → Reads bs (vec_items out.records)
-  walked_reads e kept = subst (Reads bs) (sym (whole.listed kept)) (reads bs whole.taken rest whole.own whole.all (nil_from_length rest e))
+  pub walked_reads : length now.rest.now ≡ 0 → IfOk now.records (λ v. Reads bs (vec_items v))
+  walked_reads e = IfOk-weaker _ _ _ (λ v same. subst (Reads bs) (sym same) (reads bs whole.taken now.rest.now whole.own whole.all (nil_from_length now.rest.now e))) whole.listed
 
-  pub walked_lost : length rest ≡ 0 → length bs ≤ 16384 → Fails bs Memory
+  pub walked_lost : length now.rest.now ≡ 0 → length bs ≤ 16384 → Fails bs Memory
   walked_lost e within =
-      let r = reads bs whole.taken rest whole.own whole.all (nil_from_length rest e) in
+      let r = reads bs whole.taken now.rest.now whole.own whole.all (nil_from_length now.rest.now e) in
       (within, r.records, r.ordered, r.imaged)
 
-  pub walked_rest : (o : ℕ) → o ≡ length bs - length rest → 0 < length rest → Refuses bs o
-  walked_rest o e more = subst (Refuses bs) (sym e) (refuses_rest bs whole.taken rest whole.own whole.all more)
+  pub walked_rest : (o : ℕ) → o ≡ offset_of now → 0 < length now.rest.now → Refuses bs o
+  walked_rest o e more =
+      let here : length bs - length now.rest.now ≡ o = omega (arith, whole.size) in
+      subst (Refuses bs) here (refuses_rest bs whole.taken now.rest.now whole.own whole.all more)
+
+-- an error that is handed on
+pub handed_on : {V E : Type 0} (P : V → Type 0) (Q : E → Type 0) (r : Result V E) (e : E) → IsErrAnd r (λ x. x ≡ e) → Q e → MatchResult r P Q
+handed_on P Q (Ok v) e h q = absurd h
+handed_on P Q (Err x) e h q = subst Q (sym h) q

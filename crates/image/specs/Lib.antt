@@ -1,4 +1,3 @@
 pub mod Format
-pub mod Keeping
 pub mod Reading
 pub mod Writing

@@ -10,17 +10,19 @@
 -- Farthest   the bytes reach d, and no farther
 -- Accepts    the bytes begin with all parts of such a list, and reach no farther
 -- Stuck      the bytes reach d and no farther, and do not begin with all parts of any such list
--- Took       what taking several records, or a section, off the front of some bytes gives
+-- offset_of  where the bytes that a reader has left begin in its image
+-- Stored     unless a record was lost for want of memory, before or now, records are added at the end
+-- Began      a reader has an image before it and no records yet
+-- Took       what taking several records, or a section, off the front of a reader's bytes gives
 -- Reads      the bytes are the image of one list of records, and of no other
 -- Refuses    the bytes are no image, and the offset is the farthest that they reach
 -- Fails      what an error says of the bytes
 -- refusal    number and value of each case of an error; want of memory is no refusal, and has 0
-use Rattle.std.specs.Prelude.{All, ◌≡◌, ℕ, ◌+◌, ◌<◌, ◌≤◌, List, ◌++◌, map, length, Some, None, Ok, Err, Option, Result, ◌≢◌}
+use Rattle.std.specs.Prelude.{All, ◌≡◌, ℕ, ◌+◌, ◌-◌, ◌<◌, ◌≤◌, List, [], ◌++◌, map, vec_items, IfOk, MatchResult, length, Some, None, Ok, Err, Option, Result, ◌≢◌}
 use Rattle.std.specs.Borrow.{Bor}
 use Rattle.image.specs.declared.errors.ReadError.{ReadError}
 use Rattle.image.specs.declared.errors.ReadError.TheVariants.{Unreadable, Memory}
-use Rattle.image.specs.Keeping.{Stored}
-use Rattle.image.specs.declared.keeping.Kept.{Kept}
+use Rattle.image.specs.declared.reader.Reader.{Reader}
 use Rattle.image.specs.declared.records.Placed.{Placed}
 use Rattle.image.specs.declared.records.Record.{Record}
 use Rattle.image.specs.declared.records.Section.{Section}
@@ -66,9 +68,22 @@ pub record Stuck (L : List (List ℕ) → Type 0) (bs : List ℕ) (d : ℕ) : Ty
   pub far : Farthest L bs d
   pub none : (ps : List (List ℕ)) (rest : List ℕ) → L ps → bs ≢ flat ps ++ rest
 
-abbrev pub Took : (List Record → Type 0) → (List Record → List (List ℕ)) → ℕ → ℕ → List ℕ → Kept → Kept → Result (Bor (List ℕ)) ℕ → Type 0
-Took P body lead start bs old new (Ok rest) = (rs : List Record) × P rs × Stored old new (places (start + lead) rs) × Accepts (Lists P body) bs (body rs) rest.now
-Took P body lead start bs old new (Err o) = (d : ℕ) × (o ≡ start + d) × Stuck (Lists P body) bs d
+abbrev pub offset_of : Reader → ℕ
+offset_of r = r.size - length r.rest.now
+
+abbrev pub Stored : Reader → Reader → List Placed → Type 0
+Stored old new xs = IfOk new.records (λ w. MatchResult old.records (λ v. vec_items w ≡ vec_items v ++ xs) (λ e. ⊥))
+
+pub record Began (bs : List ℕ) (r : Reader) : Type 0 where
+  pub size : r.size ≡ length bs
+  pub rest : r.rest.now ≡ bs
+  pub none : IfOk r.records (λ v. vec_items v ≡ [])
+
+abbrev pub Took : (List Record → Type 0) → (List Record → List (List ℕ)) → ℕ → Reader → Reader → Result (Unit {0}) ReadError → Type 0
+Took P body lead old new (Ok _) =
+    (rs : List Record) × P rs × (new.size ≡ old.size) × Stored old new (places (offset_of old + lead) rs)
+    × Accepts (Lists P body) old.rest.now (body rs) new.rest.now
+Took P body lead old new (Err e) = (d : ℕ) × (e ≡ Unreadable (offset_of old + d)) × Stuck (Lists P body) old.rest.now d
 
 pub record Reads (bs : List ℕ) (items : List Placed) : Type 0 where
   pub records : List Record

@@ -1,5 +1,6 @@
 // Why an image is not read, and why a list of records is not written.
 ghost use Rattle.std.specs.Prelude.{◌≡◌};
+ghost use Rattle.image.specs.declared.errors.ReadError.{ReadError};
 ghost use Rattle.image.specs.declared.errors.WriteError.{WriteError};
 
 use std::alloc::AllocError;
@@ -25,6 +26,14 @@ pub enum WriteError {
     ImageTooLong,
     // No rule is broken, and there is no memory for the image.
     Memory,
+}
+
+impl From<AllocError> for ReadError {
+    ghost from_gives = { λ _ r. r ≡ ReadError.Memory };
+
+    fn from(_e: AllocError) -> ReadError {
+        ReadError::Memory
+    }
 }
 
 impl From<AllocError> for WriteError {

@@ -2,7 +2,7 @@
 #![tactic(auto)]
 
 mod errors;
-mod keeping;
+mod reader;
 mod reading;
 mod records;
 mod rules;

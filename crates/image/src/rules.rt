@@ -13,7 +13,7 @@ const COUNTS: usize = 10;
 fn in_order(records: &[Record]) -> bool
     ensures { IsTrue result ↔ Ordered records.now }
 {
-    records.is_sorted_by_key(|record| record.section())
+    records.is_sorted_by(|a, b| a.section() <= b.section())
 }
 
 // How many records belong to a section.

@@ -1,12 +1,24 @@
-// One record off the front of some bytes. The five functions have one contract: the record and
-// the bytes after it, or that no record of the section begins here.
+// What begins some bytes. The five functions for a record have one contract: the record and the bytes
+// after it, or that no record of the section begins here.
+ghost use Rattle.std.specs.Prelude.{◌≡◌, ◌<◌, ◌++◌, length, MatchOption};
+ghost use Rattle.image.specs.Format.{half};
 ghost use Rattle.image.specs.Reading.{Taken};
 ghost use Rattle.image.specs.declared.records.Section.TheVariants.{Admissions, Grants, Fills, Puts, Runs};
 
 use super::records::{Admission, Fill, Grant, Put, Record, Run, Section};
 use isa::Side;
 
-fn admission<'a>(bytes: &'a [u8]) -> Option<(Record<'a>, &'a [u8])>
+// The count at the front of a section.
+pub fn count(bytes: &[u8]) -> Option<(u16, &[u8])>
+    ensures { MatchOption result (length bytes.now < 2) (λ x. bytes.now ≡ half x.0 ++ x.1.now) }
+{
+    let [c0, c1, rest @ ..] = bytes else {
+        return None;
+    };
+    Some((u16::from_be_bytes([*c0, *c1]), rest))
+}
+
+fn admission(bytes: &[u8]) -> Option<(Record<'_>, &[u8])>
     ensures { Taken Admissions bytes.now result }
 {
     let [p0, p1, f0, f1, c0, c1, rest @ ..] = bytes else {
@@ -20,7 +32,7 @@ fn admission<'a>(bytes: &'a [u8]) -> Option<(Record<'a>, &'a [u8])>
     Some((Record::Admit(admission), rest))
 }
 
-fn grant<'a>(bytes: &'a [u8]) -> Option<(Record<'a>, &'a [u8])>
+fn grant(bytes: &[u8]) -> Option<(Record<'_>, &[u8])>
     ensures { Taken Grants bytes.now result }
 {
     let [p0, p1, s0, s1, g0, g1, g2, g3, k0, k1, rest @ ..] = bytes else {
@@ -40,7 +52,7 @@ fn grant<'a>(bytes: &'a [u8]) -> Option<(Record<'a>, &'a [u8])>
     Some((Record::Grant(grant), rest))
 }
 
-fn fill<'a>(bytes: &'a [u8]) -> Option<(Record<'a>, &'a [u8])>
+fn fill(bytes: &[u8]) -> Option<(Record<'_>, &[u8])>
     ensures { Taken Fills bytes.now result }
 {
     let [p0, p1, k0, k1, o0, o1, n0, n1, rest @ ..] = bytes else {
@@ -60,7 +72,7 @@ fn fill<'a>(bytes: &'a [u8]) -> Option<(Record<'a>, &'a [u8])>
     Some((Record::Fill(fill), rest))
 }
 
-fn put<'a>(bytes: &'a [u8]) -> Option<(Record<'a>, &'a [u8])>
+fn put(bytes: &[u8]) -> Option<(Record<'_>, &[u8])>
     ensures { Taken Puts bytes.now result }
 {
     let [p0, p1, r0, r1, v0, v1, v2, v3, rest @ ..] = bytes else {
@@ -74,7 +86,7 @@ fn put<'a>(bytes: &'a [u8]) -> Option<(Record<'a>, &'a [u8])>
     Some((Record::Put(put), rest))
 }
 
-fn run<'a>(bytes: &'a [u8]) -> Option<(Record<'a>, &'a [u8])>
+fn run(bytes: &[u8]) -> Option<(Record<'_>, &[u8])>
     ensures { Taken Runs bytes.now result }
 {
     let [p0, p1, n0, n1, n2, n3, rest @ ..] = bytes else {
@@ -87,7 +99,7 @@ fn run<'a>(bytes: &'a [u8]) -> Option<(Record<'a>, &'a [u8])>
     Some((Record::Run(run), rest))
 }
 
-pub fn record<'a>(section: Section, bytes: &'a [u8]) -> Option<(Record<'a>, &'a [u8])>
+pub fn record(section: Section, bytes: &[u8]) -> Option<(Record<'_>, &[u8])>
     ensures { Taken section bytes.now result }
 {
     match section {
