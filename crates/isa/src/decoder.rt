@@ -6,13 +6,13 @@ ghost use Rattle.words.specs.Extension.{extended};
 
 use super::kinds::{Instruction, Kind, Opcode, Undecoded};
 use super::table::lookup;
-use words::extend_displacement;
+use words::extend;
 
 // The displacement that a short format has in two bytes, with its sign.
 pub fn short_displacement(a: u8, b: u8) -> u32
     ensures { result ≡ extended 16 (a * 256 + b) }
 {
-    extend_displacement(u16::from_be_bytes([a, b]))
+    extend::<i16>(u32::from(u16::from_be_bytes([a, b])))
 }
 
 // The displacement of a carried opcode, from the bytes after the fields; none where they are too few or too many.

@@ -1,8 +1,9 @@
 // Sums, differences and products, by their exact results.
-ghost use Rattle.std.specs.Prelude.{◌≡◌, pos, ◌+ℤ◌, ◌-ℤ◌, ◌*ℤ◌, neg_ℤ};
+ghost use Rattle.std.specs.Prelude.{◌≡◌, ◌+ℤ◌, ◌-ℤ◌, ◌*ℤ◌, neg_ℤ};
 ghost use Rattle.words.specs.Kept.{Told, kept};
 ghost use Rattle.words.specs.Wholes.{Within, signed};
 
+use super::operand::Operand;
 use super::wholes::{whole, word};
 
 // What is kept of an exact result: its low 32 bits, and whether the result is no signed word.
@@ -23,18 +24,18 @@ pub(crate) fn keep(exact: i64) -> Kept
     }
 }
 
-pub fn add(a: u32, b: u32) -> Kept
-    ensures value { result ≡ kept (signed 32 a +ℤ signed 32 b) }
-    ensures told { Told (signed 32 a +ℤ signed 32 b) result }
+pub fn add<T: Operand>(a: u32, b: T) -> Kept
+    ensures value { result ≡ kept (signed 32 a +ℤ T.value_of b) }
+    ensures told { Told (signed 32 a +ℤ T.value_of b) result }
 {
-    keep(whole(a) + whole(b))
+    keep(whole(a) + b.whole())
 }
 
-pub fn subtract(a: u32, b: u32) -> Kept
-    ensures value { result ≡ kept (signed 32 a -ℤ signed 32 b) }
-    ensures told { Told (signed 32 a -ℤ signed 32 b) result }
+pub fn subtract<T: Operand>(a: u32, b: T) -> Kept
+    ensures value { result ≡ kept (signed 32 a -ℤ T.value_of b) }
+    ensures told { Told (signed 32 a -ℤ T.value_of b) result }
 {
-    keep(whole(a) - whole(b))
+    keep(whole(a) - b.whole())
 }
 
 // The product of two signed words, which 64 bits hold.
@@ -46,11 +47,11 @@ fn product(x: i64, y: i64) -> i64
     x * y
 }
 
-pub fn multiply(a: u32, b: u32) -> Kept
-    ensures value { result ≡ kept (signed 32 a *ℤ signed 32 b) }
-    ensures told { Told (signed 32 a *ℤ signed 32 b) result }
+pub fn multiply<T: Operand>(a: u32, b: T) -> Kept
+    ensures value { result ≡ kept (signed 32 a *ℤ T.value_of b) }
+    ensures told { Told (signed 32 a *ℤ T.value_of b) result }
 {
-    keep(product(whole(a), whole(b)))
+    keep(product(whole(a), b.whole()))
 }
 
 pub fn negate(a: u32) -> Kept
@@ -58,27 +59,4 @@ pub fn negate(a: u32) -> Kept
     ensures told { Told (neg_ℤ (signed 32 a)) result }
 {
     keep(-whole(a))
-}
-
-// The immediate forms take the four-bit field of an instruction, a number that has no sign.
-
-pub fn add_field(a: u32, field: u8) -> Kept
-    ensures value { result ≡ kept (signed 32 a +ℤ pos field) }
-    ensures told { Told (signed 32 a +ℤ pos field) result }
-{
-    keep(whole(a) + i64::from(field))
-}
-
-pub fn subtract_field(a: u32, field: u8) -> Kept
-    ensures value { result ≡ kept (signed 32 a -ℤ pos field) }
-    ensures told { Told (signed 32 a -ℤ pos field) result }
-{
-    keep(whole(a) - i64::from(field))
-}
-
-pub fn multiply_field(a: u32, field: u8) -> Kept
-    ensures value { result ≡ kept (signed 32 a *ℤ pos field) }
-    ensures told { Told (signed 32 a *ℤ pos field) result }
-{
-    keep(product(whole(a), i64::from(field)))
 }

@@ -1,27 +1,56 @@
 // Sign extension.
+ghost use Rattle.std.specs.Prelude.{◌≡◌, ℕ, ◌%◌, ◌^◌, ◌<◌};
 ghost use Rattle.words.specs.Extension.{Extends};
+ghost use Rattle.words.specs.Wholes.{signed};
 
 use super::wholes::word;
 
-// The last byte of a word with its sign.
-pub fn extend_byte(a: u32) -> u32
-    ensures { Extends 8 a result }
-{
-    let byte = (a % 0x100) as u8;
-    word(i64::from(byte.cast_signed()))
+// A signed number that the last bits of a word may be.
+pub trait Narrow {
+    ghost bits: { ℕ };
+
+    // The value of the last bits of a word.
+    fn last(a: u32) -> i64
+        ensures { result ≡ signed bits (a % 2 ^ bits) };
+
+    ghost positive: { 0 < bits };
+
+    ghost narrower: { bits < 32 };
 }
 
-// The last halfword of a word with its sign.
-pub fn extend_halfword(a: u32) -> u32
-    ensures { Extends 16 a result }
-{
-    let half = (a % 0x1_0000) as u16;
-    extend_displacement(half)
+impl Narrow for i8 {
+    ghost use Rattle.std.proofs.Common.{rules};
+
+    ghost bits = { 8 };
+
+    ghost positive = { Prim.search rules };
+
+    ghost narrower = { Prim.search rules };
+
+    fn last(a: u32) -> i64 {
+        let byte = (a % 0x100) as u8;
+        i64::from(byte.cast_signed())
+    }
 }
 
-// A 16-bit displacement as a word.
-pub fn extend_displacement(half: u16) -> u32
-    ensures { Extends 16 half result }
+impl Narrow for i16 {
+    ghost use Rattle.std.proofs.Common.{rules};
+
+    ghost bits = { 16 };
+
+    ghost positive = { Prim.search rules };
+
+    ghost narrower = { Prim.search rules };
+
+    fn last(a: u32) -> i64 {
+        let half = (a % 0x1_0000) as u16;
+        i64::from(half.cast_signed())
+    }
+}
+
+// The last bits of a word with their sign: `extend::<i8>(a)` takes a byte, `extend::<i16>(a)` a halfword.
+pub fn extend<T: Narrow>(a: u32) -> u32
+    ensures { Extends T.bits a result }
 {
-    word(i64::from(half.cast_signed()))
+    word(T::last(a))
 }

@@ -6,6 +6,7 @@ mod arithmetic;
 mod division;
 mod extension;
 mod logic;
+mod operand;
 mod orders;
 mod pairs;
 mod relations;
@@ -13,12 +14,11 @@ mod shifts;
 mod wholes;
 
 pub use addresses::{address, even, sum, target};
-pub use arithmetic::{
-    Kept, add, add_field, multiply, multiply_field, negate, subtract, subtract_field,
-};
+pub use arithmetic::{Kept, add, multiply, negate, subtract};
 pub use division::{divide, remainder};
-pub use extension::{extend_byte, extend_displacement, extend_halfword};
-pub use logic::{and, and_field, complement, complement_field, exclusive_or, or};
+pub use extension::{Narrow, extend};
+pub use logic::{and, complement, exclusive_or, or};
+pub use operand::{Field, Operand};
 pub use orders::compare_unsigned;
 pub use pairs::Pair;
 pub use relations::Relation;

@@ -1,14 +1,18 @@
-// Logic, bit by bit.
+// Logic, bit by bit. A field is a word whose other bits are 0.
 ghost use Rattle.std.specs.Prelude.{◌≡◌, ◌+◌, ◌-◌, ◌%◌, ◌^◌, min, max, bit_and, bit_or, bit_xor};
 ghost use Rattle.words.specs.Bits.{Combined, Flipped};
 
-pub fn and(a: u32, b: u32) -> u32
-    ensures value { result ≡ bit_and a b }
-    ensures bits { Combined min a b result }
+use super::operand::Operand;
+
+#[tactic(auto, using(crate::proofs::Bitwise::and_bits))]
+pub fn and<T: Operand>(a: u32, b: T) -> u32
+    ensures value { result ≡ bit_and a (T.word_of b) }
+    ensures bits { Combined min a (T.word_of b) result }
 {
-    a & b
+    a & b.word()
 }
 
+#[tactic(auto, using(crate::proofs::Bitwise::or_bits))]
 pub fn or(a: u32, b: u32) -> u32
     ensures value { result ≡ bit_or a b }
     ensures bits { Combined max a b result }
@@ -16,6 +20,7 @@ pub fn or(a: u32, b: u32) -> u32
     a | b
 }
 
+#[tactic(auto, using(crate::proofs::Bitwise::xor_bits))]
 pub fn exclusive_or(a: u32, b: u32) -> u32
     ensures value { result ≡ bit_xor a b }
     ensures bits { Combined (λ x y. (x + y) % 2) a b result }
@@ -23,25 +28,10 @@ pub fn exclusive_or(a: u32, b: u32) -> u32
     a ^ b
 }
 
-pub fn complement(a: u32) -> u32
-    ensures value { result ≡ 2 ^ 32 - 1 - a }
-    ensures bits { Flipped a result }
+#[tactic(auto, using(crate::proofs::Bitwise::flip_bits))]
+pub fn complement<T: Operand>(a: T) -> u32
+    ensures value { result ≡ 2 ^ 32 - 1 - T.word_of a }
+    ensures bits { Flipped (T.word_of a) result }
 {
-    !a
-}
-
-// The forms with a four-bit field take it as a word whose other bits are 0.
-
-pub fn and_field(a: u32, field: u8) -> u32
-    ensures value { result ≡ bit_and a field }
-    ensures bits { Combined min a field result }
-{
-    and(a, u32::from(field))
-}
-
-pub fn complement_field(field: u8) -> u32
-    ensures value { result ≡ 2 ^ 32 - 1 - field }
-    ensures bits { Flipped field result }
-{
-    complement(u32::from(field))
+    !a.word()
 }

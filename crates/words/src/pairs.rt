@@ -14,42 +14,46 @@ pub struct Pair {
     pub low: u32,
 }
 
-impl Pair {
-    pub fn number(self) -> u64
-        ensures { result ≡ number_of self }
-    {
-        u64::from(self.high) * 0x1_0000_0000 + u64::from(self.low)
-    }
+impl From<Pair> for u64 {
+    ghost from_gives = { λ pair number. number ≡ number_of pair };
 
-    pub fn from_number(number: u64) -> Pair
-        ensures { Holds number result }
-    {
+    fn from(pair: Pair) -> u64 {
+        u64::from(pair.high) * 0x1_0000_0000 + u64::from(pair.low)
+    }
+}
+
+impl From<u64> for Pair {
+    ghost from_gives = { λ number pair. Holds number pair };
+
+    fn from(number: u64) -> Pair {
         Pair {
             high: (number / 0x1_0000_0000) as u32,
             low: (number % 0x1_0000_0000) as u32,
         }
     }
+}
 
+impl Pair {
     // Shifts go by the low six bits of the count.
     pub fn shift_left(self, count: u32) -> Pair
         ensures shifts { Holds (left 64 (number_of self) (count % 64)) result }
         ensures moves { count % 64 ≡ 32 → result ≡ record { high = self.low; low = 0 } }
     {
-        Pair::from_number(self.number() << (count % 64))
+        Pair::from(u64::from(self) << (count % 64))
     }
 
     pub fn shift_right(self, count: u32) -> Pair
         ensures shifts { Holds (right (number_of self) (count % 64)) result }
         ensures moves { count % 64 ≡ 32 → result ≡ record { high = 0; low = self.high } }
     {
-        Pair::from_number(self.number() >> (count % 64))
+        Pair::from(u64::from(self) >> (count % 64))
     }
 
     // Bits are numbered by the low six bits of the count, the first one the most significant.
     pub fn test_bit(self, count: u32) -> u32
         ensures { result ≡ bit 64 (count % 64) (number_of self) }
     {
-        ((self.number() >> (63 - count % 64)) % 2) as u32
+        ((u64::from(self) >> (63 - count % 64)) % 2) as u32
     }
 
     pub fn set_bit(self, count: u32) -> Pair
@@ -57,7 +61,7 @@ impl Pair {
         ensures replaced { Replaced 64 (count % 64) 1 (number_of self) (number_of result) }
     {
         let bit = 1u64 << (63 - count % 64);
-        Pair::from_number(self.number() | bit)
+        Pair::from(u64::from(self) | bit)
     }
 
     pub fn clear_bit(self, count: u32) -> Pair
@@ -65,8 +69,8 @@ impl Pair {
         ensures replaced { Replaced 64 (count % 64) 0 (number_of self) (number_of result) }
     {
         let bit = 1u64 << (63 - count % 64);
-        let number = self.number();
-        Pair::from_number(number - (number & bit))
+        let number = u64::from(self);
+        Pair::from(number - (number & bit))
     }
 
     // Pairs are compared as signed numbers.
@@ -74,6 +78,7 @@ impl Pair {
         ensures value { result ≡ dcomp self other }
         ensures order { TotalOrder Halves dcomp }
     {
-        compare(self.number().cast_signed(), other.number().cast_signed())
+        let (a, b) = (u64::from(self), u64::from(other));
+        compare(a.cast_signed(), b.cast_signed())
     }
 }

@@ -1,11 +1,12 @@
-// The six relations between signed words.
-ghost use Rattle.std.specs.Prelude.{◌≡◌, pos, Decides};
+// The six relations between a signed word and an operand.
+ghost use Rattle.std.specs.Prelude.{◌≡◌, Decides};
 ghost use Rattle.words.specs.Relations.{Related, related};
 ghost use Rattle.words.specs.Wholes.{signed};
 
+use super::operand::Operand;
 use super::wholes::whole;
 
-// How a word is compared with another, both signed.
+// How a word is compared with another operand, by the whole numbers that they stand for.
 #[derive(Clone, Copy, PartialEq, Eq, Debug)]
 pub enum Relation {
     Greater,
@@ -31,18 +32,10 @@ impl Relation {
         }
     }
 
-    pub fn holds(self, a: u32, b: u32) -> bool
-        ensures value { result ≡ related self (signed 32 a) (signed 32 b) }
-        ensures decides { Decides result (Related self (signed 32 a) (signed 32 b)) }
+    pub fn holds<T: Operand>(self, a: u32, b: T) -> bool
+        ensures value { result ≡ related self (signed 32 a) (T.value_of b) }
+        ensures decides { Decides result (Related self (signed 32 a) (T.value_of b)) }
     {
-        self.between(whole(a), whole(b))
-    }
-
-    // The second operand is the four-bit field of an instruction, which has no sign.
-    pub fn holds_field(self, a: u32, field: u8) -> bool
-        ensures value { result ≡ related self (signed 32 a) (pos field) }
-        ensures decides { Decides result (Related self (signed 32 a) (pos field)) }
-    {
-        self.between(whole(a), i64::from(field))
+        self.between(whole(a), b.whole())
     }
 }

@@ -7,8 +7,8 @@ use Rattle.words.proofs.pairs.Pair.clear_bit.Goals as goal
 
 pub returns : goal.returns
 returns c =
-    let e = clear_is c.number-number.result (c.args.count % 64) (omega arith) ∙ ap (with_bit 64 (c.args.count % 64) 0) c.number-number.ensures in
-    let h = held c.from_number.ensures e in
+    let e = clear_is c.from-number.result (c.args.count % 64) (omega arith) ∙ ap (with_bit 64 (c.args.count % 64) 0) c.from-number.ensures in
+    let h = held c.from.ensures e in
     record { clears = h; replaced = held-replaced h (replaced 64 (c.args.count % 64) 0 _ (omega arith) (omega arith)) }
 
 pub overflow_sub-number : goal.overflow_sub-number

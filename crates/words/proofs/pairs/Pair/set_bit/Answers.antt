@@ -6,6 +6,6 @@ use Rattle.words.proofs.pairs.Pair.set_bit.Goals as goal
 
 pub returns : goal.returns
 returns c =
-    let e = set_is c.number.result (c.args.count % 64) (omega arith) ∙ ap (with_bit 64 (c.args.count % 64) 1) c.number.ensures in
-    let h = held c.from_number.ensures e in
+    let e = set_is c.from.result (c.args.count % 64) (omega arith) ∙ ap (with_bit 64 (c.args.count % 64) 1) c.from.ensures in
+    let h = held c.from-2.ensures e in
     record { sets = h; replaced = held-replaced h (replaced 64 (c.args.count % 64) 1 _ (omega arith) (omega arith)) }
