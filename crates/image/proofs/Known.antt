@@ -7,7 +7,8 @@ use Rattle.image.specs.declared.records.Record.{Record}
 use Rattle.image.specs.declared.records.Record.TheVariants.{Admit, Grant, Fill, Put, Run}
 use Rattle.image.specs.declared.records.Section.{Section}
 use Rattle.image.specs.declared.records.Section.TheVariants.{Admissions, Grants, Fills, Puts, Runs}
-use Rattle.image.specs.Format.{written, section_of, side_number, bare}
+use Rattle.image.specs.Format.{written, section_of, bare}
+use Rattle.isa.specs.Sides.{side_number}
 
 abbrev half_of : ℕ → ℕ → ℕ
 half_of a b = a * 256 + b

@@ -1,5 +1,4 @@
 pub mod Blocks
-pub mod Bytes
 pub mod Grammar
 pub mod Images
 pub mod Kept

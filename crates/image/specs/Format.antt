@@ -1,7 +1,6 @@
 -- How records are written as an image.
 --
 -- half, word   a number of 16 bits, of 32 bits: its bytes, the most significant first
--- side_number  0 for code, 1 for data
 -- written      the bytes of a record
 -- section_of   the section that a record belongs to
 -- order        the sections, in their order
@@ -19,8 +18,7 @@
 -- bare         a record, but for where in memory the bytes of a fill lie
 use Rattle.std.specs.Prelude.{◌≡◌, ℕ, ◌+◌, ◌/◌, ◌%◌, List, [], ◌∷◌, ◌++◌, map, length, filter, nat_eq}
 use Rattle.std.specs.List.{flat_map}
-use Rattle.isa.specs.declared.kinds.Side.{Side}
-use Rattle.isa.specs.declared.kinds.Side.TheVariants.{Code, Data}
+use Rattle.isa.specs.Sides.{side_number}
 use Rattle.image.specs.declared.records.Placed.{Placed}
 use Rattle.image.specs.declared.records.Record.{Record}
 use Rattle.image.specs.declared.records.Record.TheVariants.{Admit, Grant, Fill, Put, Run}
@@ -32,10 +30,6 @@ half n = n / 256 ∷ n % 256 ∷ []
 
 abbrev pub word : ℕ → List ℕ
 word n = half (n / 65536) ++ half (n % 65536)
-
-abbrev pub side_number : Side → ℕ
-side_number Code = 0
-side_number Data = 1
 
 abbrev pub written : Record → List ℕ
 written (Admit a) = half a.p ++ half a.first ++ half a.count

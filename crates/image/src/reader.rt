@@ -39,16 +39,19 @@ impl<'a> Reader<'a> {
     }
 
     // Keeps a record that begins here and goes on after it.
-    fn keep(&mut self, record: Record<'a>, after: &'a [u8])
+    fn keep(&mut self, found: Record<'a>, after: &'a [u8])
         requires { length after.now ≤ length self.old.rest.now }
-        ensures kept { Stored self.old self.new (record { offset = offset_of self.old; «record» = «record».entry } ∷ []) }
+        ensures kept { Stored self.old self.new (record { offset = offset_of self.old; «record» = found.entry } ∷ []) }
         ensures rest { self.new.rest.now ≡ after.now }
         ensures size { self.new.size ≡ self.old.size }
     {
         let offset = self.offset();
         self.rest = after;
         if let Ok(records) = &mut self.records {
-            if let Err(e) = records.push(Placed { offset, record }) {
+            if let Err(e) = records.push(Placed {
+                offset,
+                record: found,
+            }) {
                 self.records = Err(e.into());
             }
         }

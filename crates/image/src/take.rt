@@ -38,11 +38,7 @@ fn grant(bytes: &[u8]) -> Option<(Record<'_>, &[u8])>
     let [p0, p1, s0, s1, g0, g1, g2, g3, k0, k1, rest @ ..] = bytes else {
         return None;
     };
-    let side = match u16::from_be_bytes([*s0, *s1]) {
-        0 => Side::Code,
-        1 => Side::Data,
-        _ => return None,
-    };
+    let side = Side::try_from(u16::from_be_bytes([*s0, *s1])).ok()?;
     let grant = Grant {
         p: u16::from_be_bytes([*p0, *p1]),
         side,

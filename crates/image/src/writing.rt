@@ -1,8 +1,9 @@
 // Writing a list of records as an image.
 ghost use Rattle.std.specs.Prelude.{◌≡◌, ◌≤◌, ℕ, List, All, length, MatchResult};
-ghost use Rattle.image.specs.Format.{half, word, side_number, written, among, flat, block};
+ghost use Rattle.image.specs.Format.{half, word, written, among, flat, block};
 ghost use Rattle.image.specs.Writing.{Adds, Short, Broken, Writes};
 ghost use Rattle.image.specs.declared.records.Record.TheVariants.{Admit, Grant as GrantOf, Fill as FillOf, Put as PutOf, Run as RunOf};
+ghost use Rattle.isa.specs.Sides.{side_number};
 
 use super::errors::WriteError;
 use super::records::{Admission, Fill, Grant, Put, Record, Run, SECTIONS, Section};
@@ -74,11 +75,7 @@ impl Encode for Side {
     ghost fits = { λ _. Unit {0} };
 
     fn encode(self, out: &mut Vec<u8>) -> Result<(), AllocError> {
-        let number: u16 = match self {
-            Side::Code => 0,
-            Side::Data => 1,
-        };
-        number.encode(out)
+        u16::from(self).encode(out)
     }
 }
 
