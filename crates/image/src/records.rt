@@ -15,7 +15,7 @@ pub(crate) const LARGEST: usize = 65_535;
 pub const REFUSAL: u8 = 16;
 
 // Process p comes in, with `count` frames from frame `first` on.
-#[derive(Clone, Copy)]
+#[derive(Clone, Copy, PartialEq, Eq, Debug)]
 pub struct Admission {
     pub p: u16,
     pub first: u16,
@@ -23,7 +23,7 @@ pub struct Admission {
 }
 
 // A page of one side of process p is bound to its frame k.
-#[derive(Clone, Copy)]
+#[derive(Clone, Copy, PartialEq, Eq, Debug)]
 pub struct Grant {
     pub p: u16,
     pub side: Side,
@@ -32,7 +32,7 @@ pub struct Grant {
 }
 
 // Bytes are written into frame k of process p, from `offset` on.
-#[derive(Clone, Copy)]
+#[derive(Clone, Copy, PartialEq, Eq, Debug)]
 pub struct Fill<'a> {
     pub p: u16,
     pub k: u16,
@@ -41,7 +41,7 @@ pub struct Fill<'a> {
 }
 
 // A value is put into register r of process p.
-#[derive(Clone, Copy)]
+#[derive(Clone, Copy, PartialEq, Eq, Debug)]
 pub struct Put {
     pub p: u16,
     pub r: u16,
@@ -49,13 +49,13 @@ pub struct Put {
 }
 
 // Process p runs for at most n steps.
-#[derive(Clone, Copy)]
+#[derive(Clone, Copy, PartialEq, Eq, Debug)]
 pub struct Run {
     pub p: u16,
     pub n: u32,
 }
 
-#[derive(Clone, Copy)]
+#[derive(Clone, Copy, PartialEq, Eq, Debug)]
 pub enum Record<'a> {
     Admit(Admission),
     Grant(Grant),
@@ -65,7 +65,7 @@ pub enum Record<'a> {
 }
 
 // A record, and the offset in its image at which it is written.
-#[derive(Clone, Copy)]
+#[derive(Clone, Copy, PartialEq, Eq, Debug)]
 pub struct Placed<'a> {
     pub offset: usize,
     pub record: Record<'a>,
