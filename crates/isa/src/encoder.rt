@@ -106,6 +106,7 @@ fn opcode(kind: Kind) -> Option<u8>
 impl Instruction {
     // The bytes that spell the instruction, or none where no bytes do: a kind that the map lacks, a size that is
     // not the format's, or a field or a displacement that does not fit.
+    #[tactic(auto, using(crate::proofs::Spelled::unmapped, crate::proofs::Spelled::fits))]
     pub fn encode(self) -> Option<Encoding>
         ensures { Encodes self result }
     {
