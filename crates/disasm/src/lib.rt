@@ -2,6 +2,8 @@
 #![tactic(auto)]
 
 ghost use Rattle.std.specs.Prelude.{◌≡◌, ◌+◌, ◌*◌, Some};
+ghost use Rattle.std.specs.Fmt.{signed_decimal};
+ghost use Rattle.std.specs.Int.{cast_signed, w32};
 ghost use Rattle.disasm.specs.Text.{address, by_second, by_width, distance, mnemonic, operand, sign, text};
 
 use isa::{Indexing, Instruction, Kind, Relation, Second, Shape, Side, Width};
@@ -108,21 +110,12 @@ impl fmt::Display for Operand {
     }
 }
 
-// A displacement, as a signed number.
-#[derive(Clone, Copy)]
-struct Distance(u32);
-
-impl fmt::Display for Distance {
-    ghost output = { λ d. Some (distance d.0) };
-
-    fn fmt<W: fmt::Write>(&self, f: &mut fmt::Formatter<W>) -> fmt::Result {
-        let word = self.0;
-        if word < 0x8000_0000 {
-            return write!(f, "{word}");
-        }
-        let size = 0x1_0000_0000 - u64::from(word);
-        write!(f, "-{size}")
-    }
+// A displacement is written as a signed number.
+fn signed(displacement: u32) -> i32
+    ensures value { result ≡ cast_signed w32 displacement }
+    ensures text { signed_decimal result ≡ distance displacement }
+{
+    displacement.cast_signed()
 }
 
 // The address of an operand in memory.
@@ -138,11 +131,11 @@ impl fmt::Display for Address {
 
     fn fmt<W: fmt::Write>(&self, f: &mut fmt::Formatter<W>) -> fmt::Result {
         let y = self.y;
-        let word = self.displacement;
+        let distance = signed(self.displacement);
         match self.indexing {
-            Indexing::Direct => write!(f, "{}", Distance(word)),
-            Indexing::Indexed if word < 0x8000_0000 => write!(f, "R{y} + {word}"),
-            Indexing::Indexed => write!(f, "R{y} - {}", 0x1_0000_0000 - u64::from(word)),
+            Indexing::Direct => write!(f, "{distance}"),
+            Indexing::Indexed if distance < 0 => write!(f, "R{y} - {}", distance.unsigned_abs()),
+            Indexing::Indexed => write!(f, "R{y} + {distance}"),
         }
     }
 }
@@ -155,14 +148,14 @@ impl fmt::Display for Sign {
     ghost output = { λ r. Some (sign r.0) };
 
     fn fmt<W: fmt::Write>(&self, f: &mut fmt::Formatter<W>) -> fmt::Result {
-        match self.0 {
-            Relation::Greater => write!(f, ">"),
-            Relation::Less => write!(f, "<"),
-            Relation::Equal => write!(f, "="),
-            Relation::LessOrEqual => write!(f, "<="),
-            Relation::GreaterOrEqual => write!(f, ">="),
-            Relation::NotEqual => write!(f, "<>"),
-        }
+        f.write_str(match self.0 {
+            Relation::Greater => ">",
+            Relation::Less => "<",
+            Relation::Equal => "=",
+            Relation::LessOrEqual => "<=",
+            Relation::GreaterOrEqual => ">=",
+            Relation::NotEqual => "<>",
+        })
     }
 }
 
@@ -178,7 +171,7 @@ impl fmt::Display for Text {
         let name = name(i.kind);
         let x = i.x;
         let y = i.y;
-        let target = Distance(i.displacement);
+        let target = signed(i.displacement);
         match i.kind.shape() {
             Shape::Bare => write!(f, "{name}"),
             Shape::Number => write!(f, "{name} {y}"),
