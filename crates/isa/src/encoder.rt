@@ -1,7 +1,7 @@
 // From an instruction to its bytes.
 ghost use Rattle.std.specs.Prelude.{◌≡◌};
 ghost use Rattle.isa.specs.Encoded.{Encodes};
-ghost use Rattle.isa.specs.Opcodes.{beside, column, opcode_of, place, plus};
+ghost use Rattle.isa.specs.Opcodes.{column, opcode_of, place, plus};
 
 use super::decoder::short_displacement;
 use super::encoding::Encoding;
@@ -31,26 +31,17 @@ fn relation_column(r: Relation) -> u8
     }
 }
 
-// The indexed form stands next to the direct one.
-fn indexed(i: Indexing) -> u8
-    ensures { result ≡ beside i }
-{
-    match i {
-        Indexing::Direct => 0,
-        Indexing::Indexed => 1,
-    }
-}
-
-// The column of an operand's width among the loads and stores.
+// The column of an operand's width among the loads and stores; the indexed form stands next to the direct one.
 fn width_column(w: Width, i: Indexing) -> u8
     ensures { result ≡ place w i }
 {
-    match w {
-        Width::Byte => indexed(i),
-        Width::Halfword => 2 + indexed(i),
-        Width::Word => 6 + indexed(i),
-        Width::Double => 8 + indexed(i),
-    }
+    let direct = match w {
+        Width::Byte => 0,
+        Width::Halfword => 2,
+        Width::Word => 6,
+        Width::Double => 8,
+    };
+    direct + i as u8
 }
 
 // The opcode of a kind, in its short form where it has two; none where the map has no such instruction.
@@ -98,8 +89,8 @@ fn opcode(kind: Kind) -> Option<u8>
         Kind::Store(w, i) => Some(0xa0 + width_column(w, i)),
         Kind::Load(Side::Data, w, i) => Some(0xc0 + width_column(w, i)),
         Kind::Load(Side::Code, w, i) => Some(0xe0 + width_column(w, i)),
-        Kind::Laddr(Side::Data, i) => Some(0xce + indexed(i)),
-        Kind::Laddr(Side::Code, i) => Some(0xee + indexed(i)),
+        Kind::Laddr(Side::Data, i) => Some(0xce + i as u8),
+        Kind::Laddr(Side::Code, i) => Some(0xee + i as u8),
     }
 }
 
