@@ -1,7 +1,7 @@
 // Instructions of every row of the map, decoded, encoded and written out.
 use super::checks::check;
 use disasm::Text;
-use isa::{Indexing, Instruction, Kind, Relation, Second, Side, Undecoded, Width, decode};
+use isa::{Indexing, Instruction, Kind, NoSide, Relation, Second, Side, Undecoded, Width, decode};
 use std::alloc::Global;
 use std::test::Fail;
 
@@ -10,18 +10,15 @@ fn shows(heap: Global, bytes: &[u8], text: &str) -> Result<(), Fail> {
     let instruction = decode(bytes)?;
     let shown = format!(in heap; "{}", Text(instruction))?;
     check(shown.as_str() == text, text)?;
-    let Some(encoding) = instruction.encode() else {
-        return Err(Fail::new("not encoded"));
-    };
+    let encoding = instruction
+        .encode()
+        .ok_or_else(|| Fail::new("not encoded"))?;
     check(encoding.as_slice() == bytes, text)
 }
 
 // The bytes are no carried instruction, for this reason.
 fn fails(bytes: &[u8], why: Undecoded) -> Result<(), Fail> {
-    match decode(bytes) {
-        Ok(_) => Err(Fail::new("decoded")),
-        Err(found) => check(found == why, "another reason"),
-    }
+    check(decode(bytes) == Err(why), "decoded, or another reason")
 }
 
 fn all_show(heap: Global, cases: &[(&[u8], &str)]) -> Result<(), Fail> {
@@ -236,4 +233,15 @@ fn no_bytes_branch_on_less_with_registers(rt: HostRuntime) {
         )
     );
     assert!(rt; fits(Kind::Branch(Relation::Less, Second::Field), 4, 1, 2, 0));
+}
+
+#[test]
+fn a_side_has_a_number_and_a_name(rt: HostRuntime) -> Result<(), Fail> {
+    for (number, side, name) in [(0, Side::Code, "code"), (1, Side::Data, "data")] {
+        check(u16::from(side) == number, name)?;
+        check(Side::try_from(number) == Ok(side), name)?;
+        let shown = format!(in rt.alloc(); "{side}")?;
+        check(shown.as_str() == name, name)?;
+    }
+    check(Side::try_from(2) == Err(NoSide), "two")
 }
