@@ -1,9 +1,10 @@
 -- The map read the other way: the opcode of a kind is where the map has that kind.
-use Rattle.std.proofs.Common.{◌≡◌, ℕ, ◌+◌, ◌<◌, Bool, true, false, cond, eqb, ltb, Some, None, Option, sym, refl, ap, ◌∙◌, arith, eqb-true}
+use Rattle.std.proofs.Common.{◌≡◌, ℕ, ◌+◌, ◌<◌, Bool, true, false, cond, ◌&&◌, eqb, ltb, Some, None, Option, sym, refl, ap, ◌∙◌, arith, eqb-true}
+use Rattle.std.proofs.lemmas.Bool.{and_parts}
 use Rattle.isa.specs.Formats.{size_at}
 use Rattle.isa.specs.Map.{opcode_at}
 use Rattle.isa.specs.Opcodes.{opcode_of}
-use Rattle.isa.proofs.Rows.{both, both_are, everywhere, listed, same, same-is}
+use Rattle.isa.proofs.Rows.{everywhere, rows_of, same, same-is}
 use Rattle.isa.specs.declared.kinds.Indexing.TheVariants.{Direct, Indexed}
 use Rattle.isa.specs.declared.kinds.Kind.{Kind}
 use Rattle.isa.specs.declared.kinds.Kind.TheVariants.{Move, Neg, Add, Sub, Mpy, Div, Rem, Not, Or, Xor, And, Cbit, Sbit, Tbit, Chk, Nop, Lcomp, Dcomp, Trap, Test, Callr, Ret, Kcall, Lsl, Lsr, Asl, Asr, Dlsl, Dlsr, Csl, Seb, Seh, Branch, Jump, Call, Loop, Store, Load, Laddr}
@@ -117,7 +118,7 @@ long_by size = cond (eqb size 6) 16 0
 -- where a kind stands, its opcode leads there: as a test
 is_back : Option ℕ → ℕ → Bool
 is_back None op = false
-is_back (Some s) op = both (eqb op (s + long_by (size_at op))) (same (ltb s 0x80) (ltb op 0x80))
+is_back (Some s) op = eqb op (s + long_by (size_at op)) && same (ltb s 0x80) (ltb op 0x80)
 
 back : ℕ → Opcode → Bool
 back op Empty = true
@@ -125,7 +126,7 @@ back op NotCarried = true
 back op Kernel = true
 back op (Carried k) = is_back (opcode_of k) op
 
-passes : listed (λ op. back op (opcode_at op)) 0 256 ≡ listed (λ _. true) 0 256
+passes : rows_of (λ op. back op (opcode_at op)) ≡ rows_of (λ _. true)
 unfolding back is_back opcode_at
 passes = refl
 
@@ -139,7 +140,7 @@ told : (k : Kind) (op : ℕ) (o : Option ℕ) → opcode_of k ≡ o → is_back 
 unfolding is_back
 told k op None e b = absurd (let z : ◌≡◌ {A = ℕ} 0 1 = cc in omega arith)
 told k op (Some s) e b =
-    let parts = both_are (eqb op (s + long_by (size_at op))) _ b in
+    let parts = and_parts (eqb op (s + long_by (size_at op))) _ b in
     (s, record { from = e; here = eqb-true _ _ parts.0; half = same-is _ _ parts.1 })
 
 pub leads : (op : ℕ) (k : Kind) → op < 256 → opcode_at op ≡ Carried k → (s : ℕ) × Leads k op s

@@ -1,5 +1,8 @@
 -- A table's rule, settled at once over all of its rows: the table is what the rule gives at 0, 1, 2 and so on.
-use Rattle.std.proofs.Common.{◌≡◌, ℕ, zero, suc, ◌+◌, ◌%◌, ◌<◌, Bool, true, false, cond, not, eqb, ltb, List, [], ◌∷◌, get_or, sym, refl, ap, ◌∙◌, le_of_suc-le-suc, not-suc-le-zero, add-zero, add-suc, suc-add, zero-add, ltb-true, eqb-true}
+use Rattle.std.proofs.Common.{◌≡◌, ℕ, ◌%◌, ◌<◌, Bool, true, false, cond, not, ◌&&◌, eqb, ltb, List, map, get_or, sym, refl, ap, ◌∙◌, zero-add, ltb-true, eqb-true}
+use Rattle.std.proofs.lemmas.Bool.{and_parts}
+use Rattle.std.proofs.lemmas.List.FromFn.{get_or-map-range_with_len}
+use Rattle.std.specs.List.{range_with_len}
 use Rattle.isa.specs.Formats.{LastBit, displaced, shape_of, size_at}
 use Rattle.isa.specs.Map.{opcode_at, length_of, Ruled}
 use Rattle.isa.specs.declared.kinds.Indexing.TheVariants.{Direct, Indexed}
@@ -8,22 +11,19 @@ use Rattle.isa.specs.declared.kinds.Opcode.TheVariants.{Empty, NotCarried, Kerne
 use Rattle.isa.specs.declared.kinds.Shape.{Shape}
 use Rattle.isa.specs.declared.kinds.Shape.TheVariants.{Bare, Number, Entry, Pair, Compare, Branch, Jump, Call, Loop, Memory}
 
--- n values of f from i on
-abbrev pub listed : {A : Type 0} → (ℕ → A) → ℕ → ℕ → List A
-listed f i zero = []
-listed f i (suc n) = f i ∷ listed f (suc i) n
-
-pub listed_at : {A : Type 0} (f : ℕ → A) (d : A) (n i k : ℕ) → k < n → get_or (listed f i n) k d ≡ f (i + k)
-listed_at f d zero i k h = absurd (not-suc-le-zero h)
-listed_at f d (suc n) i zero h = ap f (sym (add-zero i))
-listed_at f d (suc n) i (suc k) h = listed_at f d n (suc i) k (le_of_suc-le-suc h) ∙ ap f (suc-add i k ∙ sym (add-suc i k))
-
 -- the row of an opcode by the map and the length rule
 abbrev pub row_at : ℕ → Opcode × ℕ
 row_at op = (opcode_at op, length_of (opcode_at op) op)
 
-pub row_of : (xs : List (Opcode × ℕ)) → xs ≡ listed row_at 0 256 → (op : ℕ) → op < 256 → get_or xs op (Empty, 0) ≡ row_at op
-row_of xs e op h = ap (λ (l : List (Opcode × ℕ)). get_or l op (Empty, 0)) e ∙ listed_at row_at (Empty, 0) 256 0 op h ∙ ap row_at (zero-add op)
+-- what f gives at each place of the table
+abbrev pub rows_of : {A : Type 0} → (ℕ → A) → List A
+rows_of f = map f (range_with_len 0 256)
+
+pub rows_at : {A : Type 0} (f : ℕ → A) (d : A) (op : ℕ) → op < 256 → get_or (rows_of f) op d ≡ f op
+rows_at f d op h = get_or-map-range_with_len f 0 256 op op d h (zero-add op)
+
+pub row_of : (xs : List (Opcode × ℕ)) → xs ≡ rows_of row_at → (op : ℕ) → op < 256 → get_or xs op (Empty, 0) ≡ row_at op
+row_of xs e op h = ap (λ (l : List (Opcode × ℕ)). get_or l op (Empty, 0)) e ∙ rows_at row_at (Empty, 0) op h
 
 abbrev pub same : Bool → Bool → Bool
 same true b = b
@@ -34,14 +34,6 @@ same-is true true e = refl
 same-is true false e = cc
 same-is false true e = cc
 same-is false false e = refl
-
-abbrev pub both : Bool → Bool → Bool
-both true b = b
-both false b = false
-
-pub both_are : (a b : Bool) → both a b ≡ true → (a ≡ true) × (b ≡ true)
-both_are true b e = (refl, e)
-both_are false b e = (e, cc)
 
 bit-holds : Shape → ℕ → Bool
 bit-holds Bare op = true
@@ -76,7 +68,7 @@ holds op Empty = true
 holds op NotCarried = ltb op 0x80
 holds op Kernel = ltb op 0x80
 holds op (Carried k) =
-    both (same (displaced (shape_of k)) (not (ltb op 0x80))) (bit-holds (shape_of k) op)
+    same (displaced (shape_of k)) (not (ltb op 0x80)) && bit-holds (shape_of k) op
 
 short : (op : ℕ) → ltb op 0x80 ≡ true → (op < 0x80) × (size_at op ≡ 2)
 short op e = (ltb-true op 0x80 e, ap (λ b. cond b 2 (cond (ltb (op % 32) 16) 4 6)) e)
@@ -87,19 +79,17 @@ sound op Empty e = refl
 sound op NotCarried e = short op e
 sound op Kernel e = short op e
 sound op (Carried k) e =
-    let parts = both_are _ _ e in
+    let parts = and_parts _ _ e in
     record { half = same-is _ _ parts.0; last_bit = bit-sound (shape_of k) op parts.1; long = refl }
 
 -- it passes at every row: one computation
-passes : listed (λ op. holds op (opcode_at op)) 0 256 ≡ listed (λ _. true) 0 256
+passes : rows_of (λ op. holds op (opcode_at op)) ≡ rows_of (λ _. true)
 unfolding holds bit-holds opcode_at
 passes = refl
 
 -- what is true at each of 256 places is true at any of them
-pub everywhere : (f : ℕ → Bool) → listed f 0 256 ≡ listed (λ _. true) 0 256 → (op : ℕ) → op < 256 → f op ≡ true
-everywhere f e op h =
-    ap f (sym (zero-add op)) ∙ sym (listed_at f true 256 0 op h) ∙ ap (λ l. get_or l op true) e
-    ∙ listed_at (λ _. true) true 256 0 op h
+pub everywhere : (f : ℕ → Bool) → rows_of f ≡ rows_of (λ _. true) → (op : ℕ) → op < 256 → f op ≡ true
+everywhere f e op h = sym (rows_at f true op h) ∙ ap (λ l. get_or l op true) e ∙ rows_at (λ _. true) true op h
 
 pub ruled : (op : ℕ) → op < 256 → Ruled op (opcode_at op) (length_of (opcode_at op) op)
 ruled op h = sound op (opcode_at op) (everywhere (λ n. holds n (opcode_at n)) passes op h)
