@@ -3,7 +3,7 @@
 
 mod pattern;
 
-use pattern::{Fault, PARTS, Step, Working, work};
+use pattern::{PARTS, Working, work};
 use std::io;
 use words::whole;
 
@@ -34,22 +34,13 @@ fn show(rt: &impl Print, fired: u32, shrinkage: u32, working: Working) -> io::Re
     println!(rt; "  {product} / {divisor} = {pattern}, {over} over")
 }
 
-fn blame(rt: &impl Print, fault: Fault) -> io::Result<()> {
-    match fault {
-        Fault::Overflow(Step::Divisor) => println!(rt; "  the divisor is no word"),
-        Fault::Overflow(Step::Product) => println!(rt; "  the product is no word"),
-        Fault::Overflow(Step::Quotient) => println!(rt; "  the quotient is no word"),
-        Fault::ZeroDivisor => println!(rt; "  the divisor is zero"),
-    }
-}
-
 fn run(rt: &impl Print) -> io::Result<()> {
     for (fired, shrinkage) in FIGURES {
         println!(rt; "fired {fired} shrinkage {shrinkage}")?;
         let (fired, shrinkage) = (fired.cast_unsigned(), shrinkage.cast_unsigned());
         match work(fired, shrinkage) {
             Ok(working) => show(rt, fired, shrinkage, working)?,
-            Err(fault) => blame(rt, fault)?,
+            Err(fault) => println!(rt; "  {fault}")?,
         }
     }
     Ok(())

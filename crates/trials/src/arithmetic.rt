@@ -1,23 +1,20 @@
 // The arithmetic of words at its edges, against tables of exact results.
 use super::checks::check;
 use std::test::Fail;
-use words::{
-    Kept, add, add_field, divide, multiply, multiply_field, negate, remainder, subtract,
-    subtract_field,
-};
+use words::{Field, Kept, add, divide, multiply, negate, remainder, subtract};
 
-const MOST: u32 = 0x7fff_ffff;
+pub const MOST: u32 = 0x7fff_ffff;
 
-const LEAST: u32 = 0x8000_0000;
+pub const LEAST: u32 = 0x8000_0000;
 
-const MINUS: u32 = 0xffff_ffff;
+pub const MINUS: u32 = 0xffff_ffff;
 
 // A table has a row for each of these as first operand and a column for each as second. In its marks an x stands for
 // overflow and a dash for a zero divisor.
 const EDGES: [u32; 5] = [0, 1, MOST, LEAST, MINUS];
 
 // The columns of the tables for immediate forms.
-const FIELDS: [u8; 3] = [0, 1, 15];
+const FIELDS: [Field; 3] = [Field(0), Field(1), Field(15)];
 
 const SUMS: [([u32; 5], &str); 5] = [
     ([0, 1, MOST, LEAST, MINUS], "....."),
@@ -105,84 +102,76 @@ fn remainder_is(found: Option<u32>, word: u32, mark: u8) -> Result<(), Fail> {
     }
 }
 
-#[test]
-fn sums() -> Result<(), Fail> {
-    for (a, (words, marks)) in EDGES.iter().zip(SUMS.iter()) {
-        for ((b, word), mark) in EDGES.iter().zip(words.iter()).zip(marks.bytes()) {
-            kept_is(add(*a, *b), *word, mark)?;
+// Holds what an operation answers at each place of a table against the word and the mark that stand there.
+fn each<B, R, F, G, const N: usize>(
+    columns: &[B; N],
+    table: &[([u32; N], &str); 5],
+    operation: F,
+    is: G,
+) -> Result<(), Fail>
+where
+    B: Copy,
+    F: Fn(u32, B) -> R,
+    G: Fn(R, u32, u8) -> Result<(), Fail>,
+    requires operates { F.IsAlwaysCallable operation }
+    requires compares { G.IsAlwaysCallable is }
+{
+    for (a, (words, marks)) in EDGES.iter().zip(table.iter()) {
+        for ((b, word), mark) in columns.iter().zip(words.iter()).zip(marks.bytes()) {
+            is(operation(*a, *b), *word, mark)?;
         }
     }
     Ok(())
+}
+
+#[test]
+fn sums() -> Result<(), Fail> {
+    each(&EDGES, &SUMS, |a, b| add(a, b), kept_is)
 }
 
 #[test]
 fn differences() -> Result<(), Fail> {
-    for (a, (words, marks)) in EDGES.iter().zip(DIFFERENCES.iter()) {
-        for ((b, word), mark) in EDGES.iter().zip(words.iter()).zip(marks.bytes()) {
-            kept_is(subtract(*a, *b), *word, mark)?;
-        }
-    }
-    Ok(())
+    each(&EDGES, &DIFFERENCES, |a, b| subtract(a, b), kept_is)
 }
 
 #[test]
 fn products() -> Result<(), Fail> {
-    for (a, (words, marks)) in EDGES.iter().zip(PRODUCTS.iter()) {
-        for ((b, word), mark) in EDGES.iter().zip(words.iter()).zip(marks.bytes()) {
-            kept_is(multiply(*a, *b), *word, mark)?;
-        }
-    }
-    Ok(())
+    each(&EDGES, &PRODUCTS, |a, b| multiply(a, b), kept_is)
 }
 
 #[test]
 fn quotients() -> Result<(), Fail> {
-    for (a, (words, marks)) in EDGES.iter().zip(QUOTIENTS.iter()) {
-        for ((b, word), mark) in EDGES.iter().zip(words.iter()).zip(marks.bytes()) {
-            quotient_is(divide(*a, *b), *word, mark)?;
-        }
-    }
-    Ok(())
+    each(&EDGES, &QUOTIENTS, |a, b| divide(a, b), quotient_is)
 }
 
 #[test]
 fn remainders() -> Result<(), Fail> {
-    for (a, (words, marks)) in EDGES.iter().zip(REMAINDERS.iter()) {
-        for ((b, word), mark) in EDGES.iter().zip(words.iter()).zip(marks.bytes()) {
-            remainder_is(remainder(*a, *b), *word, mark)?;
-        }
-    }
-    Ok(())
+    each(&EDGES, &REMAINDERS, |a, b| remainder(a, b), remainder_is)
 }
 
 #[test]
 fn sums_with_a_field() -> Result<(), Fail> {
-    for (a, (words, marks)) in EDGES.iter().zip(SUMS_WITH_A_FIELD.iter()) {
-        for ((b, word), mark) in FIELDS.iter().zip(words.iter()).zip(marks.bytes()) {
-            kept_is(add_field(*a, *b), *word, mark)?;
-        }
-    }
-    Ok(())
+    each(&FIELDS, &SUMS_WITH_A_FIELD, |a, b| add(a, b), kept_is)
 }
 
 #[test]
 fn differences_with_a_field() -> Result<(), Fail> {
-    for (a, (words, marks)) in EDGES.iter().zip(DIFFERENCES_WITH_A_FIELD.iter()) {
-        for ((b, word), mark) in FIELDS.iter().zip(words.iter()).zip(marks.bytes()) {
-            kept_is(subtract_field(*a, *b), *word, mark)?;
-        }
-    }
-    Ok(())
+    each(
+        &FIELDS,
+        &DIFFERENCES_WITH_A_FIELD,
+        |a, b| subtract(a, b),
+        kept_is,
+    )
 }
 
 #[test]
 fn products_with_a_field() -> Result<(), Fail> {
-    for (a, (words, marks)) in EDGES.iter().zip(PRODUCTS_WITH_A_FIELD.iter()) {
-        for ((b, word), mark) in FIELDS.iter().zip(words.iter()).zip(marks.bytes()) {
-            kept_is(multiply_field(*a, *b), *word, mark)?;
-        }
-    }
-    Ok(())
+    each(
+        &FIELDS,
+        &PRODUCTS_WITH_A_FIELD,
+        |a, b| multiply(a, b),
+        kept_is,
+    )
 }
 
 #[test]

@@ -1,15 +1,12 @@
 // Relations, comparisons, logic, sign extension and addresses at their edges, and the check values of arithmetic.
+use super::arithmetic::{LEAST, MINUS, MOST};
+use super::checks::check;
+use super::shifts::pair;
+use std::test::Fail;
 use words::{
-    Kept, Pair, Relation, add, address, and, and_field, compare_unsigned, complement,
-    complement_field, divide, even, exclusive_or, extend_byte, extend_displacement,
-    extend_halfword, or, remainder, sum, target, whole, word,
+    Field, Kept, Pair, Relation, add, address, and, compare_unsigned, complement, divide, even,
+    exclusive_or, extend, or, remainder, sum, target, whole, word,
 };
-
-const MOST: u32 = 0x7fff_ffff;
-
-const LEAST: u32 = 0x8000_0000;
-
-const MINUS: u32 = 0xffff_ffff;
 
 // Signed words from the lowest to the highest.
 const SIGNED: [u32; 5] = [LEAST, MINUS, 0, 1, MOST];
@@ -55,42 +52,36 @@ fn relations_between_words(rt: HostRuntime) {
 
 #[test]
 fn relations_with_a_field(rt: HostRuntime) {
-    assert!(rt; Relation::Less.holds_field(MINUS, 0));
-    assert!(rt; Relation::Less.holds_field(14, 15));
-    assert!(rt; Relation::Greater.holds_field(MOST, 15));
-    assert!(rt; Relation::Greater.holds_field(16, 15));
-    assert!(rt; Relation::Equal.holds_field(15, 15));
-    assert!(rt; Relation::LessOrEqual.holds_field(LEAST, 1));
-    assert!(rt; Relation::GreaterOrEqual.holds_field(0, 0));
-    assert!(rt; Relation::NotEqual.holds_field(MINUS, 15));
+    assert!(rt; Relation::Less.holds(MINUS, Field(0)));
+    assert!(rt; Relation::Less.holds(14, Field(15)));
+    assert!(rt; Relation::Greater.holds(MOST, Field(15)));
+    assert!(rt; Relation::Greater.holds(16, Field(15)));
+    assert!(rt; Relation::Equal.holds(15, Field(15)));
+    assert!(rt; Relation::LessOrEqual.holds(LEAST, Field(1)));
+    assert!(rt; Relation::GreaterOrEqual.holds(0, Field(0)));
+    assert!(rt; Relation::NotEqual.holds(MINUS, Field(15)));
+}
+
+// Holds what a comparison answers of any two things of a list from the lowest to the highest.
+fn ordered<T: Copy, F: Fn(T, T) -> u32>(things: &[T], compare: F) -> Result<(), Fail>
+    requires { F.IsAlwaysCallable compare }
+{
+    for (i, a) in things.iter().enumerate() {
+        for (j, b) in things.iter().enumerate() {
+            check(compare(*a, *b) == placed(i, j), "another order")?;
+        }
+    }
+    Ok(())
 }
 
 #[test]
-fn comparisons_of_words(rt: HostRuntime) {
-    for (i, a) in UNSIGNED.iter().enumerate() {
-        for (j, b) in UNSIGNED.iter().enumerate() {
-            assert_eq!(rt; compare_unsigned(*a, *b), placed(i, j));
-        }
-    }
+fn comparisons_of_words() -> Result<(), Fail> {
+    ordered(&UNSIGNED, |a, b| compare_unsigned(a, b))
 }
 
 #[test]
-fn comparisons_of_pairs(rt: HostRuntime) {
-    for (i, a) in PAIRS.iter().enumerate() {
-        for (j, b) in PAIRS.iter().enumerate() {
-            let (a, b) = (
-                Pair {
-                    high: a.0,
-                    low: a.1,
-                },
-                Pair {
-                    high: b.0,
-                    low: b.1,
-                },
-            );
-            assert_eq!(rt; a.compare(b), placed(i, j));
-        }
-    }
+fn comparisons_of_pairs() -> Result<(), Fail> {
+    ordered(&PAIRS, |a, b| pair(a).compare(pair(b)))
 }
 
 #[test]
@@ -100,23 +91,23 @@ fn logic_goes_bit_by_bit(rt: HostRuntime) {
     assert_eq!(rt; exclusive_or(0x0f0f_3355, 0x00ff_5533), 0x0ff0_6666);
     assert_eq!(rt; complement(0x0f0f_3355), 0xf0f0_ccaa);
     assert_eq!(rt; complement(0), MINUS);
-    assert_eq!(rt; and_field(MINUS, 15), 15);
-    assert_eq!(rt; and_field(LEAST, 15), 0);
-    assert_eq!(rt; complement_field(0), MINUS);
-    assert_eq!(rt; complement_field(15), 0xffff_fff0);
+    assert_eq!(rt; and(MINUS, Field(15)), 15);
+    assert_eq!(rt; and(LEAST, Field(15)), 0);
+    assert_eq!(rt; complement(Field(0)), MINUS);
+    assert_eq!(rt; complement(Field(15)), 0xffff_fff0);
 }
 
 #[test]
 fn signs_are_extended(rt: HostRuntime) {
-    assert_eq!(rt; extend_byte(0x1234_567f), 0x7f);
-    assert_eq!(rt; extend_byte(0x1234_5680), 0xffff_ff80);
-    assert_eq!(rt; extend_byte(MINUS), MINUS);
-    assert_eq!(rt; extend_byte(0x100), 0);
-    assert_eq!(rt; extend_halfword(0x1234_7fff), 0x7fff);
-    assert_eq!(rt; extend_halfword(0x1234_8000), 0xffff_8000);
-    assert_eq!(rt; extend_halfword(0x0001_0000), 0);
-    assert_eq!(rt; extend_displacement(0x7fff), 0x7fff);
-    assert_eq!(rt; extend_displacement(0xfffe), 0xffff_fffe);
+    assert_eq!(rt; extend::<i8>(0x1234_567f), 0x7f);
+    assert_eq!(rt; extend::<i8>(0x1234_5680), 0xffff_ff80);
+    assert_eq!(rt; extend::<i8>(MINUS), MINUS);
+    assert_eq!(rt; extend::<i8>(0x100), 0);
+    assert_eq!(rt; extend::<i16>(0x1234_7fff), 0x7fff);
+    assert_eq!(rt; extend::<i16>(0x1234_8000), 0xffff_8000);
+    assert_eq!(rt; extend::<i16>(0x0001_0000), 0);
+    assert_eq!(rt; extend::<i16>(0x7fff), 0x7fff);
+    assert_eq!(rt; extend::<i16>(0xfffe), 0xffff_fffe);
 }
 
 #[test]
@@ -138,9 +129,9 @@ fn words_and_whole_numbers(rt: HostRuntime) {
     assert_eq!(rt; word(-1), MINUS);
     assert_eq!(rt; word(i64::MIN), 0);
     assert_eq!(rt; word(4_294_967_296 + 7), 7);
-    assert_eq!(rt; Pair { high: 1, low: 2 }.number(), 4_294_967_298);
+    assert_eq!(rt; u64::from(Pair { high: 1, low: 2 }), 4_294_967_298);
     assert_eq!(rt;
-        Pair::from_number(u64::MAX),
+        Pair::from(u64::MAX),
         Pair {
             high: MINUS,
             low: MINUS,

@@ -1,11 +1,8 @@
 // Shifts of words and pairs, and the bits of pairs, by counts at and beyond their width.
+use super::arithmetic::{LEAST, MINUS, MOST};
+use super::checks::check;
+use std::test::Fail;
 use words::{Pair, rotate_left, shift_left, shift_right, shift_right_arithmetic};
-
-const MOST: u32 = 0x7fff_ffff;
-
-const LEAST: u32 = 0x8000_0000;
-
-const MINUS: u32 = 0xffff_ffff;
 
 // A table of words has a row for each of these and a column for each count.
 const WORDS: [u32; 5] = [0, 1, MOST, LEAST, MINUS];
@@ -150,47 +147,43 @@ const BITS: [((u32, u32), u32, u32, (u32, u32), (u32, u32)); 21] = [
     ((MINUS, MINUS), 63, 1, (MINUS, MINUS), (MINUS, 0xffff_fffe)),
 ];
 
-fn pair(words: (u32, u32)) -> Pair {
-    Pair {
-        high: words.0,
-        low: words.1,
+pub fn pair((high, low): (u32, u32)) -> Pair {
+    Pair { high, low }
+}
+
+// Holds what a shift answers at each place of a table against the word that stands there.
+fn each<F: Fn(u32, u32) -> u32>(table: &[[u32; 6]; 5], shift: F) -> Result<(), Fail>
+    requires { F.IsAlwaysCallable shift }
+{
+    for (a, row) in WORDS.iter().zip(table.iter()) {
+        for (count, word) in COUNTS.iter().zip(row.iter()) {
+            check(shift(*a, *count) == *word, "another word")?;
+        }
     }
+    Ok(())
 }
 
 #[test]
-fn left(rt: HostRuntime) {
-    for (a, row) in WORDS.iter().zip(LEFT.iter()) {
-        for (count, word) in COUNTS.iter().zip(row.iter()) {
-            assert_eq!(rt; shift_left(*a, *count), *word);
-        }
-    }
+fn left() -> Result<(), Fail> {
+    each(&LEFT, |a, count| shift_left(a, count))
 }
 
 #[test]
-fn right(rt: HostRuntime) {
-    for (a, row) in WORDS.iter().zip(RIGHT.iter()) {
-        for (count, word) in COUNTS.iter().zip(row.iter()) {
-            assert_eq!(rt; shift_right(*a, *count), *word);
-        }
-    }
+fn right() -> Result<(), Fail> {
+    each(&RIGHT, |a, count| shift_right(a, count))
 }
 
 #[test]
-fn right_with_the_sign(rt: HostRuntime) {
-    for (a, row) in WORDS.iter().zip(RIGHT_WITH_THE_SIGN.iter()) {
-        for (count, word) in COUNTS.iter().zip(row.iter()) {
-            assert_eq!(rt; shift_right_arithmetic(*a, *count), *word);
-        }
-    }
+fn right_with_the_sign() -> Result<(), Fail> {
+    each(
+        &RIGHT_WITH_THE_SIGN,
+        |a, count| shift_right_arithmetic(a, count),
+    )
 }
 
 #[test]
-fn around(rt: HostRuntime) {
-    for (a, row) in WORDS.iter().zip(AROUND.iter()) {
-        for (count, word) in COUNTS.iter().zip(row.iter()) {
-            assert_eq!(rt; rotate_left(*a, *count), *word);
-        }
-    }
+fn around() -> Result<(), Fail> {
+    each(&AROUND, |a, count| rotate_left(a, count))
 }
 
 #[test]
