@@ -122,9 +122,9 @@ joined_other v p b q h ne = by (ltb q p) refl
         let l = ltb-false q p e in
         ap (λ n. n % 2) (same-beyond (joined v p b) v p q (omega arith) (ap (λ n. n / 2) (joined-beyond v p b) ∙ omega arith))
 
-pub replaced : (k i b v : ℕ) → i < k → b < 2 → Replaced k i b v (with_bit k i b v)
+pub replaced : (k i b v r : ℕ) → i < k → b < 2 → r ≡ with_bit k i b v → Replaced k i b v r
 unfolding bit with_bit
-replaced k i b v l h = record {
+replaced k i b v r l h e = rw e record {
   here = ap (λ n. n / 2 ^ (k - 1 - i) % 2) (exchanged v (k - 1 - i) b) ∙ ap (λ n. n % 2) (joined-beyond v (k - 1 - i) b) ∙ omega arith;
   others = λ j lj ne. ap (λ n. n / 2 ^ (k - 1 - j) % 2) (exchanged v (k - 1 - i) b) ∙ joined_other v (k - 1 - i) b (k - 1 - j) h (omega arith);
 }

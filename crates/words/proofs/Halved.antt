@@ -5,13 +5,6 @@ use Rattle.words.specs.Pairs.{Holds, number_of, pair_of}
 use Rattle.words.specs.Shifts.{left, right}
 use Rattle.words.specs.declared.pairs.Pair.{Pair}
 
--- the same number, written another way
-pub held : {m n : ℕ} {p : Pair} → Holds m p → m ≡ n → Holds n p
-held {m} {n} {p} h e = subst (λ k. Holds k p) e h
-
-pub held-replaced : {k i b v n : ℕ} {p : Pair} → Holds n p → Replaced k i b v n → Replaced k i b v (number_of p)
-held-replaced {k} {i} {b} {v} {n} {p} h r = subst (λ m. Replaced k i b v m) (sym h.number) r
-
 pair : ℕ → ℕ → Pair
 pair a b = record { high = a; low = b }
 

@@ -4,7 +4,7 @@ use native.Mathlib.Nat.{div-add-mod}
 use borrow.Author.Differences.{down, ints, neg_is, up}
 use lib.Signed.{mag_rem, quot_z, rem_z}
 use Rattle.std.proofs.lemmas.Nat.{mul-le}
-use Rattle.std.proofs.lemmas.Int.{by_lt_z}
+use Rattle.std.proofs.lemmas.Int.{by_lt_z, to_z-of_z}
 use Rattle.words.specs.Division.{Divided, Divides, Left, Truncates, quotient_of, remainder_of}
 use Rattle.words.specs.Kept.{Told, kept}
 use Rattle.words.specs.declared.arithmetic.Kept.{Kept}
@@ -21,14 +21,16 @@ small z m h l = omega (arith, ints)
 abs_neg : (z : ℤ) → nat_abs (neg_ℤ z) ≡ nat_abs z
 abs_neg z = omega (arith, ints)
 
-pub product-fits : (a b : ℤ) → Within 32 a → Within 32 b → SFits w64 (a *ℤ b)
-product-fits a b ha hb = small (a *ℤ b) (2 ^ 31 * 2 ^ 31) (of a b (size a ha) (size b hb)) (omega arith)
+pub product_fits : (a b : ℤ) → Within 32 a → Within 32 b → SFits w64 (a *ℤ b)
+product_fits a b ha hb = small (a *ℤ b) (2 ^ 31 * 2 ^ 31) (of a b (size a ha) (size b hb)) (omega arith)
   where
     of : (a b : ℤ) → nat_abs a ≤ 2 ^ 31 → nat_abs b ≤ 2 ^ 31 → nat_abs (a *ℤ b) ≤ 2 ^ 31 * 2 ^ 31
     of (pos a) (pos b) ha hb = mul-le a b (2 ^ 31) (2 ^ 31) ha hb
     of (pos a) (negsuc b) ha hb = rw abs_neg (mul-le a (suc b) (2 ^ 31) (2 ^ 31) ha hb)
     of (negsuc a) (pos b) ha hb = rw abs_neg (mul-le (suc a) b (2 ^ 31) (2 ^ 31) ha hb)
     of (negsuc a) (negsuc b) ha hb = mul-le (suc a) (suc b) (2 ^ 31) (2 ^ 31) ha hb
+
+pub ruleset products = (product_fits, to_z-of_z)
 
 -- a quotient is no larger than its dividend
 quotient_size : (n d : ℤ) → nat_abs (quot_z n d) ≤ nat_abs n

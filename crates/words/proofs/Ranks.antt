@@ -14,9 +14,9 @@ pub is_below : (x y : ℤ) → x <ℤ y → low 32 (compared x y) ≡ minus
 unfolding low compared
 is_below x y h = let e : lt_z x y ≡ true = sym (omega (arith, ints)) in rw e
 
-pub is-above : (x y : ℤ) → y <ℤ x → low 32 (compared x y) ≡ 1
+pub is_above : (x y : ℤ) → y <ℤ x → low 32 (compared x y) ≡ 1
 unfolding low compared
-is-above x y h =
+is_above x y h =
     let e : lt_z x y ≡ false = sym (omega (arith, ints)) in
     let f : lt_z y x ≡ true = sym (omega (arith, ints)) in
     rw (e, f)
@@ -36,7 +36,7 @@ data Rank (x y : ℤ) (r : ℕ) : Type 0 where
 rank : (x y : ℤ) → Rank x y (low 32 (compared x y))
 rank x y =
     by_lt_z x y (λ l. below l (is_below x y l))
-    (λ k. by_lt_z y x (λ l. above l (is-above x y l)) (λ m. let e : x ≡ y = omega (arith, ints) in same e (is_same x y e)))
+    (λ k. by_lt_z y x (λ l. above l (is_above x y l)) (λ m. let e : x ≡ y = omega (arith, ints) in same e (is_same x y e)))
 
 -- the numbers by the answer
 to_below : (x y : ℤ) (r : ℕ) → Rank x y r → r ≡ minus → x <ℤ y
@@ -66,7 +66,7 @@ total In key apart = record {
   answers = λ x y. answer (key x) (key y) _ (rank (key x) (key y));
   itself = λ x. is_same (key x) (key x) refl;
   same = λ x y hx hy e. apart x y hx hy (to_same (key x) (key y) _ (rank (key x) (key y)) e);
-  below = λ x y e. is-above (key y) (key x) (to_below (key x) (key y) _ (rank (key x) (key y)) e);
+  below = λ x y e. is_above (key y) (key x) (to_below (key x) (key y) _ (rank (key x) (key y)) e);
   above = λ x y e. is_below (key y) (key x) (to_above (key x) (key y) _ (rank (key x) (key y)) e);
   through = λ x y z e f.
       let g = to_below (key x) (key y) _ (rank (key x) (key y)) e in

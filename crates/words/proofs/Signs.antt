@@ -110,6 +110,18 @@ signed_to_z w v h = by (ltb v (2 ^ (bits w - 1))) refl
         ∙ (let z : pos v -ℤ pos (2 ^ bits w) ≡ negsuc (2 ^ bits w - suc v) = omega (arith, ints) in z)
         ∙ sym (at false e)
 
+pub signed_8 : (v : ℕ) → v < 2 ^ 8 → to_z w8 v ≡ signed 8 v
+signed_8 v h = sym (signed_to_z w8 v h)
+
+pub signed_16 : (v : ℕ) → v < 2 ^ 16 → to_z w16 v ≡ signed 16 v
+signed_16 v h = sym (signed_to_z w16 v h)
+
+pub signed_32 : (v : ℕ) → v < 2 ^ 32 → to_z w32 v ≡ signed 32 v
+signed_32 v h = sym (signed_to_z w32 v h)
+
+pub signed_64 : (v : ℕ) → v < 2 ^ 64 → to_z w64 v ≡ signed 64 v
+signed_64 v h = sym (signed_to_z w64 v h)
+
 -- the bits of a whole number that fits a width of the machine
 pub low_of_z : (w : Width) (z : ℤ) → SFits w z → low (bits w) z ≡ of_z w z
 unfolding low

@@ -55,9 +55,9 @@ turned a k h = by (k % 32) (omega arith)
         ∙ or_shifted (a % 2 ^ (32 - suc c)) (suc c) (a / 2 ^ (32 - suc c)) (upper a (suc c) (32 - suc c) h e)
         ∙ sym (exchanged a (suc c) (32 - suc c) e)
 
-pub turned-back : (a k : ℕ) → a < 2 ^ 32 → circled (circled a k) (32 - k % 32) ≡ a
+pub turned_back : (a k : ℕ) → a < 2 ^ 32 → circled (circled a k) (32 - k % 32) ≡ a
 unfolding circled
-turned-back a k h = by (k % 32) (omega arith)
+turned_back a k h = by (k % 32) (omega arith)
   where
     by : (c : ℕ) → c < 32 → circled (left 32 a c + right a (32 - c)) (32 - c) ≡ a
     by zero l = omega arith

@@ -39,6 +39,7 @@ pub fn subtract<T: Operand>(a: u32, b: T) -> Kept
 }
 
 // The product of two signed words, which 64 bits hold.
+#[tactic(auto, using(crate::proofs::Quotients::products))]
 fn product(x: i64, y: i64) -> i64
     requires x_within { Within 32 x }
     requires y_within { Within 32 y }

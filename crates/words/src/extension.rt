@@ -27,6 +27,7 @@ impl Narrow for i8 {
 
     ghost narrower = { Prim.search rules };
 
+    #[tactic(auto, using(crate::proofs::Signs::signed_8))]
     fn last(a: u32) -> i64 {
         let byte = (a % 0x100) as u8;
         i64::from(byte.cast_signed())
@@ -42,6 +43,7 @@ impl Narrow for i16 {
 
     ghost narrower = { Prim.search rules };
 
+    #[tactic(auto, using(crate::proofs::Signs::signed_16))]
     fn last(a: u32) -> i64 {
         let half = (a % 0x1_0000) as u16;
         i64::from(half.cast_signed())

@@ -4,6 +4,7 @@ ghost use Rattle.words.specs.Orders.{TotalOrder, Word, compared, lcomp};
 ghost use Rattle.words.specs.Wholes.{low};
 
 // FFFFFFFFh, 0 or 1 as one number is below, equal to or above another.
+#[tactic(auto, using(crate::proofs::Ranks::is_below, crate::proofs::Ranks::is_above, crate::proofs::Ranks::is_same))]
 pub(crate) fn compare(a: i64, b: i64) -> u32
     ensures { result ≡ low 32 (compared a b) }
 {
@@ -16,6 +17,7 @@ pub(crate) fn compare(a: i64, b: i64) -> u32
     }
 }
 
+#[tactic(auto, using(crate::proofs::Ranks::words_ordered))]
 pub fn compare_unsigned(a: u32, b: u32) -> u32
     ensures value { result ≡ lcomp a b }
     ensures order { TotalOrder Word lcomp }

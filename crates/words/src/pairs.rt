@@ -17,6 +17,7 @@ pub struct Pair {
 impl From<Pair> for u64 {
     ghost from_gives = { λ pair number. number ≡ number_of pair };
 
+    #[tactic(auto, unfolding(crate::specs::Pairs::number_of))]
     fn from(pair: Pair) -> u64 {
         u64::from(pair.high) * 0x1_0000_0000 + u64::from(pair.low)
     }
@@ -25,6 +26,7 @@ impl From<Pair> for u64 {
 impl From<u64> for Pair {
     ghost from_gives = { λ number pair. Holds number pair };
 
+    #[tactic(auto, unfolding(crate::specs::Pairs::number_of, crate::specs::Pairs::pair_of))]
     fn from(number: u64) -> Pair {
         Pair {
             high: (number / 0x1_0000_0000) as u32,
@@ -35,6 +37,7 @@ impl From<u64> for Pair {
 
 impl Pair {
     // Shifts go by the low six bits of the count.
+    #[tactic(auto, using(crate::proofs::Halved::moved_left))]
     pub fn shift_left(self, count: u32) -> Pair
         ensures shifts { Holds (left 64 (number_of self) (count % 64)) result }
         ensures moves { count % 64 ≡ 32 → result ≡ record { high = self.low; low = 0 } }
@@ -42,6 +45,7 @@ impl Pair {
         Pair::from(u64::from(self) << (count % 64))
     }
 
+    #[tactic(auto, using(crate::proofs::Halved::moved_right))]
     pub fn shift_right(self, count: u32) -> Pair
         ensures shifts { Holds (right (number_of self) (count % 64)) result }
         ensures moves { count % 64 ≡ 32 → result ≡ record { high = 0; low = self.high } }
@@ -50,12 +54,14 @@ impl Pair {
     }
 
     // Bits are numbered by the low six bits of the count, the first one the most significant.
+    #[tactic(auto, unfolding(crate::specs::Bits::bit))]
     pub fn test_bit(self, count: u32) -> u32
         ensures { result ≡ bit 64 (count % 64) (number_of self) }
     {
         ((u64::from(self) >> (63 - count % 64)) % 2) as u32
     }
 
+    #[tactic(auto, using(crate::proofs::Bitwise::set_is))]
     pub fn set_bit(self, count: u32) -> Pair
         ensures sets { Holds (with_bit 64 (count % 64) 1 (number_of self)) result }
         ensures replaced { Replaced 64 (count % 64) 1 (number_of self) (number_of result) }
@@ -64,6 +70,7 @@ impl Pair {
         Pair::from(u64::from(self) | bit)
     }
 
+    #[tactic(auto, using(crate::proofs::Bitwise::clear_is))]
     pub fn clear_bit(self, count: u32) -> Pair
         ensures clears { Holds (with_bit 64 (count % 64) 0 (number_of self)) result }
         ensures replaced { Replaced 64 (count % 64) 0 (number_of self) (number_of result) }
@@ -74,6 +81,7 @@ impl Pair {
     }
 
     // Pairs are compared as signed numbers.
+    #[tactic(auto, using(crate::proofs::Ranks::pairs_ordered, crate::proofs::Signs::signed_64))]
     pub fn compare(self, other: Pair) -> u32
         ensures value { result ≡ dcomp self other }
         ensures order { TotalOrder Halves dcomp }

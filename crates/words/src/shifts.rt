@@ -27,6 +27,7 @@ pub fn shift_right_arithmetic(a: u32, count: u32) -> u32
 }
 
 // Bits that leave at the front come in at the back.
+#[tactic(auto, using(crate::proofs::Turned::turned, crate::proofs::Turned::turned_back))]
 pub fn rotate_left(a: u32, count: u32) -> u32
     ensures value { result ≡ circled a count }
     ensures back { circled result (32 - count % 32) ≡ a }

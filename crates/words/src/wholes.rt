@@ -3,6 +3,7 @@ ghost use Rattle.std.specs.Prelude.{◌≡◌, ◌^◌};
 ghost use Rattle.words.specs.Wholes.{low, signed, Modulo, Within};
 
 // The two's complement value of a word.
+#[tactic(auto, using(crate::proofs::Signs::signed_32))]
 pub fn whole(word: u32) -> i64
     ensures value { result ≡ signed 32 word }
     ensures within { Within 32 result }
