@@ -1,7 +1,7 @@
 -- What is kept of an exact result: overflow is told exactly where the kept word is not the result.
 use Rattle.std.proofs.Common.{◌≡◌, ℕ, ◌^◌, ◌<◌, Bool, true, false, not, ◌||◌, eqb, ℤ, pos, neg_ℤ, sym, refl, ap, ◌∙◌, subst, arith, to_z-of_z, w64, SFits, to_z, of_z, eqb-true}
 use borrow.Author.Differences.{ints}
-use borrow.Author.Tests.{eqb-false, not-false, not-true}
+use borrow.Author.Tests.{eqb-false}
 use lib.Signed.{lt_z}
 use Rattle.words.proofs.Signs.{low_below, signed_low, signed-within}
 use Rattle.words.specs.Kept.{Told, kept, outside}
@@ -50,9 +50,6 @@ module _ (e whole : ℤ) (word : ℕ) (fe : SFits w64 e) (fw : SFits w64 whole) 
   compared =
       let f = told (eqb (of_z w64 whole) (of_z w64 e)) refl in
       cc
-
-  pub exact : Told e answer
-  exact = (λ h. sym es ∙ same (eqb-true _ _ (not-false _ h)), λ h s. eqb-false _ _ (not-true _ h) (ap (of_z w64) (es ∙ s)))
 
 -- the same exact result, written another way
 pub as_told : {e f : ℤ} (r : Kept) → Told e r → e ≡ f → Told f r

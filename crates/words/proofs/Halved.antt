@@ -1,6 +1,5 @@
 -- Pairs and the numbers that they hold.
-use Rattle.std.proofs.Common.{◌≡◌, ℕ, ◌*◌, ◌/◌, ◌%◌, ◌^◌, ◌<◌, sym, ap, ◌∙◌, subst, arith}
-use Rattle.words.specs.Bits.{Replaced}
+use Rattle.std.proofs.Common.{◌≡◌, ℕ, ◌*◌, ◌/◌, ◌%◌, ◌^◌, ◌<◌, ap, ◌∙◌, arith}
 use Rattle.words.specs.Pairs.{Holds, number_of, pair_of}
 use Rattle.words.specs.Shifts.{left, right}
 use Rattle.words.specs.declared.pairs.Pair.{Pair}

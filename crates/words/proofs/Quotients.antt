@@ -5,8 +5,8 @@ use borrow.Author.Differences.{down, ints, neg_is, up}
 use lib.Signed.{mag_rem, quot_z, rem_z}
 use Rattle.std.proofs.lemmas.Nat.{mul-le}
 use Rattle.std.proofs.lemmas.Int.{by_lt_z, to_z-of_z}
-use Rattle.words.specs.Division.{Divided, Divides, Left, Truncates, quotient_of, remainder_of}
-use Rattle.words.specs.Kept.{Told, kept}
+use Rattle.words.specs.Division.{Divided, Divides, Left, Truncates, remainder_of}
+use Rattle.words.specs.Kept.{Told}
 use Rattle.words.specs.declared.arithmetic.Kept.{Kept}
 use Rattle.words.proofs.Signs.{low_signed, mag_within, signed_low, within_mag}
 use Rattle.words.specs.Wholes.{low, signed, Within}
@@ -84,9 +84,9 @@ pub truncates : (n d : ℤ) → 0 < nat_abs d → Truncates n d
 truncates n d h = record { divides = divides n d h; only = only n d }
 
 -- only the word 0 stands for 0
-pub not-zero : (b : ℕ) → b < 2 ^ 32 → (b ≡ 0 → ⊥) → 0 < nat_abs (signed 32 b)
+pub not_zero : (b : ℕ) → b < 2 ^ 32 → (b ≡ 0 → ⊥) → 0 < nat_abs (signed 32 b)
 unfolding low
-not-zero b h n = by (signed 32 b) refl
+not_zero b h n = by (signed 32 b) refl
   where
     by : (z : ℤ) → signed 32 b ≡ z → 0 < nat_abs z
     by (pos zero) e = absurd (n (sym (low_signed 32 b (omega arith) h) ∙ ap (low 32) e))
@@ -104,27 +104,24 @@ remainder_exact : (n d : ℤ) → Within 32 n → signed 32 (low 32 (rem_z n d))
 remainder_exact n d h = signed_low 32 (rem_z n d) (omega arith) (remainder_within n d h)
 
 module _ (a b : ℕ) (wa : Within 32 (signed 32 a)) (lb : b < 2 ^ 32) (nb : b ≡ 0 → ⊥) where
-  pub has_quotient : (k : Kept) → k ≡ kept (quot_z (signed 32 a) (signed 32 b)) → Some k ≡ quotient_of a b
-  has_quotient k h = let e = ne_eqb b 0 nb in rw e (ap Some h)
-
-  pub has_remainder : (r : ℕ) → r ≡ low 32 (rem_z (signed 32 a) (signed 32 b)) → Some r ≡ remainder_of a b
+  has_remainder : (r : ℕ) → r ≡ low 32 (rem_z (signed 32 a) (signed 32 b)) → Some r ≡ remainder_of a b
   has_remainder r h = let e = ne_eqb b 0 nb in rw e (ap Some h)
 
   pub divided : (k : Kept) → Told (quot_z (signed 32 a) (signed 32 b)) k → Divided a b k
   divided k h = record {
-    truncates = truncates (signed 32 a) (signed 32 b) (not-zero b lb nb);
+    truncates = truncates (signed 32 a) (signed 32 b) (not_zero b lb nb);
     told = h;
     restores = λ r e o.
         let q = h.0 o in
         let s = has_remainder (low 32 (rem_z (signed 32 a) (signed 32 b))) refl in
         let t : r ≡ low 32 (rem_z (signed 32 a) (signed 32 b)) = cc in
         let u : signed 32 r ≡ rem_z (signed 32 a) (signed 32 b) = ap (signed 32) t ∙ remainder_exact _ _ wa in
-        let d = (divides (signed 32 a) (signed 32 b) (not-zero b lb nb)).whole in
+        let d = (divides (signed 32 a) (signed 32 b) (not_zero b lb nb)).whole in
         cc;
   }
 
   pub left : (r : ℕ) → r ≡ low 32 (rem_z (signed 32 a) (signed 32 b)) → Left a b r
   left r h =
       let u : signed 32 r ≡ rem_z (signed 32 a) (signed 32 b) = ap (signed 32) h ∙ remainder_exact _ _ wa in
-      let d = divides (signed 32 a) (signed 32 b) (not-zero b lb nb) in
+      let d = divides (signed 32 a) (signed 32 b) (not_zero b lb nb) in
       record { exact = u; smaller = rw u d.smaller; sign = rw u d.sign }

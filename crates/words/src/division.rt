@@ -7,6 +7,7 @@ use super::arithmetic::{Kept, keep};
 use super::wholes::{whole, word};
 
 // The value of a divisor, unless it is zero.
+#[tactic(auto, using(crate::proofs::Quotients::not_zero))]
 fn divisor(b: u32) -> Option<i64>
     ensures { MatchOption result (b ≡ 0) (λ d. (d ≡ signed 32 b) × (0 < unsigned_abs d) × (b ≢ 0)) }
 {

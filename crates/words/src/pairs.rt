@@ -81,7 +81,7 @@ impl Pair {
     }
 
     // Pairs are compared as signed numbers.
-    #[tactic(auto, using(crate::proofs::Ranks::pairs_ordered, crate::proofs::Signs::signed_64))]
+    #[tactic(auto, using(crate::proofs::Ranks::pairs_ordered))]
     pub fn compare(self, other: Pair) -> u32
         ensures value { result ≡ dcomp self other }
         ensures order { TotalOrder Halves dcomp }

@@ -32,5 +32,5 @@ pub fn rotate_left(a: u32, count: u32) -> u32
     ensures value { result ≡ circled a count }
     ensures back { circled result (32 - count % 32) ≡ a }
 {
-    a.rotate_left(count % 32)
+    a.rotate_left(count)
 }

@@ -8,8 +8,8 @@ use Rattle.words.specs.Shifts.{Floored}
 use Rattle.words.specs.Wholes.{low, signed}
 use Rattle.words.proofs.shifts.shift_right_arithmetic.Goals as goal
 
-pub returns : goal.returns
-returns c =
+pub returns-clause-floored : goal.returns-clause-floored
+returns-clause-floored c =
     let f : SFits w64 c.whole.result = search rules in
     let w = shifted_within c.whole.result (2 ^ (c.args.count % 32)) c.whole.ensures.within in
     let g : SFits w64 (shr_z c.whole.result (2 ^ (c.args.count % 32))) = omega (arith, ints) in
@@ -17,7 +17,4 @@ returns c =
     let s : signed 32 c.word.result ≡ shr_z c.whole.result (2 ^ (c.args.count % 32)) = ap (signed 32) e ∙ signed_low 32 _ (omega arith) w in
     let v = c.whole.ensures.value in
     let q : signed 32 c.word.result ≡ shr_z (signed 32 c.args.a) (2 ^ (c.args.count % 32)) = s ∙ ap (λ z. shr_z z (2 ^ (c.args.count % 32))) v in
-    record {
-      value = e ∙ ap (λ z. low 32 (shr_z z (2 ^ (c.args.count % 32)))) v;
-      floored = subst (λ z. Floored (signed 32 c.args.a) (2 ^ (c.args.count % 32)) z) (sym q) (floored (signed 32 c.args.a) (c.args.count % 32));
-    }
+    subst (λ z. Floored (signed 32 c.args.a) (2 ^ (c.args.count % 32)) z) (sym q) (floored (signed 32 c.args.a) (c.args.count % 32))
