@@ -14,40 +14,43 @@ const SAMPLE: &[u8; 50] = b"\
 // Where its counts and records begin.
 const STARTS: [usize; 10] = [0, 2, 8, 10, 20, 22, 32, 34, 42, 44];
 
-// Its records: their offsets and fields, a fill by its length.
-const FIELDS: [(usize, [u32; 4]); 5] = [
-    (2, [3, 2, 260, 0]),
-    (10, [3, 1, 999_999, 9]),
-    (22, [3, 9, 4_094, 2]),
-    (34, [3, 16, 65_538, 0]),
-    (44, [3, 1_000_000, 0, 0]),
+// Its records.
+const RECORDS: [Record; 5] = [
+    Record::Admit(Admission {
+        p: 3,
+        first: 2,
+        count: 260,
+    }),
+    Record::Grant(Grant {
+        p: 3,
+        side: Side::Data,
+        page: 999_999,
+        k: 9,
+    }),
+    Record::Fill(Fill {
+        p: 3,
+        k: 9,
+        offset: 4_094,
+        bytes: &[171, 205],
+    }),
+    Record::Put(Put {
+        p: 3,
+        r: 16,
+        value: 65_538,
+    }),
+    Record::Run(Run { p: 3, n: 1_000_000 }),
 ];
 
-fn fields(record: Record) -> [u32; 4] {
-    match record {
-        Record::Admit(a) => [a.p.into(), a.first.into(), a.count.into(), 0],
-        Record::Grant(g) => [g.p.into(), g.side as u32, g.page, g.k.into()],
-        Record::Fill(f) => [
-            f.p.into(),
-            f.k.into(),
-            f.offset.into(),
-            if f.bytes == [171, 205].as_slice() {
-                2
-            } else {
-                0
-            },
-        ],
-        Record::Put(u) => [u.p.into(), u.r.into(), u.value, 0],
-        Record::Run(e) => [e.p.into(), e.n, 0, 0],
-    }
-}
+// Where they begin.
+const OFFSETS: [usize; 5] = [2, 10, 22, 34, 44];
 
 #[test]
 fn reads_each_kind(rt: HostRuntime) -> Result<(), Fail> {
     let all = read(rt.alloc(), SAMPLE)?;
     assert!(rt; all.len() == 5);
-    for (placed, expected) in all.iter().zip(FIELDS.iter()) {
-        assert_eq!(rt; (placed.offset, fields(placed.record)), *expected);
+    for (placed, (offset, record)) in all.iter().zip(OFFSETS.iter().zip(RECORDS.iter())) {
+        assert!(rt; placed.offset == *offset);
+        assert!(rt; placed.record == *record);
     }
     Ok(())
 }
@@ -56,15 +59,10 @@ fn reads_each_kind(rt: HostRuntime) -> Result<(), Fail> {
 fn refuses_each_cut(rt: HostRuntime) {
     let bytes = *SAMPLE;
     for n in 0..50usize {
-        let mut cut = 0;
-        for start in STARTS {
-            if start <= n {
-                cut = start;
-            }
-        }
+        let cut = STARTS.into_iter().filter(|start| *start <= n).last();
         assert_eq!(rt;
             read(rt.alloc(), &bytes[0..n]).err(),
-            Some(ReadError::Unreadable(cut))
+            cut.map(ReadError::Unreadable)
         );
     }
 }
@@ -90,33 +88,7 @@ fn refuses_a_bad_side_and_a_byte_left_over(rt: HostRuntime) -> Result<(), Fail> 
 
 #[test]
 fn reads_what_was_written(rt: HostRuntime) -> Result<(), Fail> {
-    let grant = Grant {
-        p: 3,
-        side: Side::Data,
-        page: 999_999,
-        k: 9,
-    };
-    let records = [
-        Record::Admit(Admission {
-            p: 3,
-            first: 2,
-            count: 260,
-        }),
-        Record::Grant(grant),
-        Record::Fill(Fill {
-            p: 3,
-            k: 9,
-            offset: 4_094,
-            bytes: &[171, 205],
-        }),
-        Record::Put(Put {
-            p: 3,
-            r: 16,
-            value: 65_538,
-        }),
-        Record::Run(Run { p: 3, n: 1_000_000 }),
-    ];
-    let bytes = write(rt.alloc(), &records)?;
+    let bytes = write(rt.alloc(), &RECORDS)?;
     assert!(rt; bytes.as_slice() == SAMPLE.as_slice());
     Ok(())
 }
@@ -179,10 +151,7 @@ fn refuses_to_write(rt: HostRuntime) -> Result<(), Fail> {
         write(rt.alloc(), &swapped).err(),
         Some(WriteError::OutOfOrder)
     );
-    let mut many = Vec::new(rt.alloc());
-    for n in 0..65_536u32 {
-        many.push(steps(n))?;
-    }
+    let many: Vec<Record> = (0..65_536u32).map(steps).collect(rt.alloc())?;
     assert_eq!(rt;
         write(rt.alloc(), &many).err(),
         Some(WriteError::TooManyRecords)
