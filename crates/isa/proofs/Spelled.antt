@@ -15,7 +15,7 @@ use Rattle.isa.specs.declared.kinds.Opcode.TheVariants.{Empty, NotCarried, Kerne
 use Rattle.isa.specs.declared.kinds.Undecoded.{Undecoded}
 use Rattle.isa.specs.declared.kinds.Undecoded.TheVariants as undecoded
 use Rattle.isa.proofs.Decoded.{carried, whole}
-use Rattle.isa.proofs.Inverse.{Stands, Twice, leads, long_by, stands}
+use Rattle.isa.proofs.Inverse.{Stands, leads, long_by, stands}
 
 -- what decoding to i says of the bytes, with s the opcode of i's kind
 pub record Read (bs : List ℕ) (i : Instruction) (s : ℕ) : Type 0 where
@@ -98,7 +98,7 @@ fields : (i : Instruction) → i.x ≤ 15 → i.y ≤ 15 →
 fields i hx hy = (omega arith, omega arith)
 
 -- the opcode of i's kind, where the map has it
-at : (i : Instruction) (op : ℕ) → opcode_of i.kind ≡ Some op → (opcode_at op ≡ Carried i.kind) × Twice (ltb op 0x80) op i.kind
+at : (i : Instruction) (op : ℕ) → opcode_of i.kind ≡ Some op → Stands (Some op) i.kind
 at i op e = subst (λ o. Stands o i.kind) e (stands i.kind)
 
 low : (op : ℕ) → op < 0x80 → size_at op ≡ 2
@@ -106,7 +106,10 @@ low op h = ap (λ t. cond t 2 (cond (ltb (op % 32) 16) 4 6)) (lt-ltb op 0x80 h)
 
 high : (i : Instruction) (op : ℕ) → opcode_of i.kind ≡ Some op → 0x80 ≤ op →
     (size_at op ≡ 4) × (opcode_at (op + 16) ≡ Carried i.kind) × (size_at (op + 16) ≡ 6)
-high i op e h = subst (λ t. Twice t op i.kind) (le-ltb op 0x80 h) (at i op e).1
+high i op e h =
+    let s = at i op e in
+    subst (λ t. (size_at op ≡ cond t 2 4) × (opcode_at (op + cond t 0 16) ≡ Carried i.kind) × (size_at (op + cond t 0 16) ≡ cond t 2 6))
+    (le-ltb op 0x80 h) (s.2, s.1, s.3)
 
 -- the bytes of an instruction with one opcode: the first is that opcode, the second has the fields
 first : {bs : List ℕ} {i : Instruction} {s op : ℕ} → Read bs i s → opcode_of i.kind ≡ Some op → get_or bs 0 0 ≡ op + long_by i.size

@@ -58,30 +58,18 @@ shape_of (Load s w i) = Memory i
 shape_of (Laddr s i) = Memory i
 
 abbrev pub displaced : Shape → Bool
-displaced Bare = false
-displaced Number = false
-displaced Entry = false
-displaced (Pair s) = false
-displaced (Compare r s) = false
 displaced (Branch r s) = true
 displaced Jump = true
 displaced Call = true
 displaced Loop = true
 displaced (Memory i) = true
+displaced _ = false
 
 -- for the shapes with an address, the last bit of the opcode tells whether Ry is added
 abbrev pub LastBit : Shape → ℕ → Type 0
-LastBit Bare op = Unit {0}
-LastBit Number op = Unit {0}
-LastBit Entry op = Unit {0}
-LastBit (Pair s) op = Unit {0}
-LastBit (Compare r s) op = Unit {0}
-LastBit (Branch r s) op = Unit {0}
-LastBit Jump op = Unit {0}
-LastBit Call op = Unit {0}
-LastBit Loop op = Unit {0}
 LastBit (Memory Direct) op = op % 2 ≡ 0
 LastBit (Memory Indexed) op = op % 2 ≡ 1
+LastBit _ _ = Unit {0}
 
 -- two bytes below 80h; from 80h up four in an even row of the map, six in an odd one
 abbrev pub size_at : ℕ → ℕ
