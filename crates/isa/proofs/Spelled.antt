@@ -1,8 +1,9 @@
 -- Encoding undoes decoding: what bytes that decode to an instruction look like, and that there are no others.
-use Rattle.std.proofs.Common.{◌≡◌, ℕ, ◌+◌, ◌*◌, ◌/◌, ◌%◌, ◌<◌, ◌≤◌, Bool, true, false, cond, ltb, List, [], ◌∷◌, length, get_or, drop, Some, None, Ok, Err, sym, refl, ap, ◌∙◌, subst, add-zero, arith, lit≤, ltb-false, ltb-true, le-ltb, lt-ltb, eq-eqb, eqb-true}
+use Rattle.std.proofs.Common.{◌≡◌, ℕ, ◌+◌, ◌*◌, ◌/◌, ◌%◌, ◌<◌, ◌≤◌, Bool, true, false, cond, ltb, List, [], ◌∷◌, map, length, get_or, drop, Some, None, Ok, Err, sym, refl, ap, ◌∙◌, subst, add-zero, arith, lit≤, ltb-false, ltb-true, le-ltb, lt-ltb, eq-eqb, eqb-true}
 use Rattle.std.proofs.lemmas.List.FromFn.{fill_by_all}
 use Rattle.words.proofs.Extended.{extends}
 use Rattle.words.specs.Extension.{extended}
+use Rattle.std.specs.List.{range_with_len}
 use Rattle.isa.specs.Decoding.{decoded, decoded_as, displacement_in, instruction}
 use Rattle.isa.specs.Encoded.{Bytes, Spells, Unspelled}
 use Rattle.isa.specs.Formats.{size_at}
@@ -28,28 +29,23 @@ pub record Read (bs : List ℕ) (i : Instruction) (s : ℕ) : Type 0 where
   pub y : i.y ≡ get_or bs 1 0 % 16
   pub told : i.displacement ≡ displacement_in (drop 2 bs)
 
-never : {i : Instruction} {e : Undecoded} {A : Type 0} → Err e ≡ Ok i → A
-never e = absurd (let z : ◌≡◌ {A = ℕ} 0 1 = cc in omega arith)
-
 judged : (bs : List ℕ) (t : Bool) (o : Opcode) → ltb (length bs) 2 ≡ t → opcode_at (get_or bs 0 0) ≡ o →
     decoded bs ≡ cond t (Err undecoded.WrongLength) (decoded_as o bs)
-judged bs t o e f =
-    ap (λ u. cond u (Err undecoded.WrongLength) (decoded_as (opcode_at (get_or bs 0 0)) bs)) e
-    ∙ ap (λ p. cond t (Err undecoded.WrongLength) (decoded_as p bs)) f
+judged bs t o e f = cc
 
 -- bytes that decode to an instruction begin with a carried opcode
 is_carried : (bs : List ℕ) (i : Instruction) (t : Bool) → ltb (length bs) 2 ≡ t → (o : Opcode) → opcode_at (get_or bs 0 0) ≡ o →
     decoded bs ≡ Ok i → (2 ≤ length bs) × (k : Kind) × (opcode_at (get_or bs 0 0) ≡ Carried k)
-is_carried bs i true e o f d = never (sym (judged bs true o e f) ∙ d)
+is_carried bs i true e o f d = cc (judged bs true o e f)
 is_carried bs i false e (Carried k) f d = (ltb-false (length bs) 2 e, k, f)
-is_carried bs i false e Empty f d = never (sym (judged bs false Empty e f) ∙ d)
-is_carried bs i false e NotCarried f d = never (sym (judged bs false NotCarried e f) ∙ d)
-is_carried bs i false e Kernel f d = never (sym (judged bs false Kernel e f) ∙ d)
+is_carried bs i false e Empty f d = cc (judged bs false Empty e f)
+is_carried bs i false e NotCarried f d = cc (judged bs false NotCarried e f)
+is_carried bs i false e Kernel f d = cc (judged bs false Kernel e f)
 
 is_whole : (bs : List ℕ) (i : Instruction) (k : Kind) (t : Bool) → whole bs ≡ t →
     cond t (Ok (instruction k bs)) (Err undecoded.WrongLength) ≡ Ok i → (length bs ≡ size_at (get_or bs 0 0)) × (instruction k bs ≡ i)
 is_whole bs i k true e d = (eqb-true (length bs) (size_at (get_or bs 0 0)) e, cc)
-is_whole bs i k false e d = never d
+is_whole bs i k false e d = cc
 
 pub read : (bs : List ℕ) (i : Instruction) → Bytes bs → decoded bs ≡ Ok i → (s : ℕ) × Read bs i s
 read bs i b d =
@@ -71,6 +67,10 @@ read bs i b d =
         told = ap (λ j. j.displacement) (sym i-is);
       },
     )
+
+-- a list by its elements
+filled : (bs : List ℕ) (n : ℕ) → length bs ≡ n → bs ≡ map (λ k. get_or bs k 0) (range_with_len 0 n)
+filled bs n e = fill_by_all (λ k. get_or bs k 0) bs n 0 e (λ k _. refl)
 
 -- an instruction by its fields
 put : Kind → ℕ → ℕ → ℕ → ℕ → Instruction
@@ -127,7 +127,7 @@ two i op e h hx hy n d =
       only = λ other b o.
           let r = read other i b o in
           let long : length other ≡ 2 = r.1.long ∙ n in
-          let l : other ≡ get_or other 0 0 ∷ get_or other 1 0 ∷ [] = fill_by_all (λ k. get_or other k 0) other 2 0 long (λ k _. refl) in
+          let l : other ≡ get_or other 0 0 ∷ get_or other 1 0 ∷ [] = filled other 2 long in
           let e0 : get_or other 0 0 ≡ op = first r.1 e ∙ ap (λ m. op + long_by m) n ∙ add-zero op in
           let e1 = second r.1 in
           cc;
@@ -149,7 +149,7 @@ four i op c d e h hx hy n ec ed w =
           let r = read other i b o in
           let long : length other ≡ 4 = r.1.long ∙ n in
           let l : other ≡ get_or other 0 0 ∷ get_or other 1 0 ∷ get_or other 2 0 ∷ get_or other 3 0 ∷ [] =
-          fill_by_all (λ k. get_or other k 0) other 4 0 long (λ k _. refl) in
+          filled other 4 long in
           let e0 : get_or other 0 0 ≡ op = first r.1 e ∙ ap (λ m. op + long_by m) n ∙ add-zero op in
           let e1 = second r.1 in
           let digits = sign_digits (get_or other 2 0) (get_or other 3 0) i.displacement (b 2) (b 3)
@@ -188,7 +188,7 @@ six i op e h hx hy n hw =
           let r = read other i b o in
           let long : length other ≡ 6 = r.1.long ∙ n in
           let l : other ≡ get_or other 0 0 ∷ get_or other 1 0 ∷ get_or other 2 0 ∷ get_or other 3 0 ∷ get_or other 4 0 ∷ get_or other 5 0 ∷ [] =
-          fill_by_all (λ k. get_or other k 0) other 6 0 long (λ k _. refl) in
+          filled other 6 long in
           let e0 : get_or other 0 0 ≡ op + 16 = first r.1 e ∙ ap (λ m. op + long_by m) n in
           let e1 = second r.1 in
           let digits = word_digits (get_or other 2 0) (get_or other 3 0) (get_or other 4 0) (get_or other 5 0) i.displacement
@@ -213,11 +213,11 @@ pub data Fits (i : Instruction) (op : ℕ) : Type 0 where
 by_size : (bs : List ℕ) (i : Instruction) (op : ℕ) → Bytes bs → Read bs i op → (t u : Bool) → ltb (get_or bs 0 0) 0x80 ≡ t →
     ltb (get_or bs 0 0 % 32) 16 ≡ u → i.size ≡ cond t 2 (cond u 4 6) → Fits i op
 by_size bs i op b r true u et eu n =
-    let l : bs ≡ get_or bs 0 0 ∷ get_or bs 1 0 ∷ [] = fill_by_all (λ k. get_or bs k 0) bs 2 0 (r.long ∙ n) (λ k _. refl) in
+    let l : bs ≡ get_or bs 0 0 ∷ get_or bs 1 0 ∷ [] = filled bs 2 (r.long ∙ n) in
     fits-two n (ltb-true op 0x80 (r.half ∙ et)) (r.told ∙ ap (λ m. displacement_in (drop 2 m)) l)
 by_size bs i op b r false true et eu n =
     let l : bs ≡ get_or bs 0 0 ∷ get_or bs 1 0 ∷ get_or bs 2 0 ∷ get_or bs 3 0 ∷ [] =
-    fill_by_all (λ k. get_or bs k 0) bs 4 0 (r.long ∙ n) (λ k _. refl) in
+    filled bs 4 (r.long ∙ n) in
     let told : i.displacement ≡ extended 16 (get_or bs 2 0 * 256 + get_or bs 3 0) = r.told ∙ ap (λ m. displacement_in (drop 2 m)) l in
     let digits = sign_digits (get_or bs 2 0) (get_or bs 3 0) i.displacement (b 2) (b 3) told in
     fits-four n (ltb-false op 0x80 (r.half ∙ et))
