@@ -1,8 +1,8 @@
 -- What `decoded` gives where the opcode is a carried one.
-use Rattle.std.proofs.Common.{◌≡◌, ℕ, ◌≤◌, Bool, cond, eqb, List, length, get_or, Ok, Err, ap, ◌∙◌, le-ltb}
-use Rattle.isa.specs.Decoding.{decoded, decoded_as, instruction}
+use Rattle.std.proofs.Common.{◌≡◌, ℕ, ◌≤◌, Bool, cond, eqb, List, length, get_or, Ok, Err, le-ltb}
+use Rattle.isa.specs.Decoding.{decoded, instruction}
 use Rattle.isa.specs.Formats.{size_at}
-use Rattle.isa.specs.Map.{opcode_at, length_of}
+use Rattle.isa.specs.Map.{opcode_at}
 use Rattle.isa.specs.declared.kinds.Kind.{Kind}
 use Rattle.isa.specs.declared.kinds.Opcode.TheVariants.{Carried}
 use Rattle.isa.specs.declared.kinds.Undecoded.TheVariants.{WrongLength}
@@ -13,7 +13,4 @@ whole bs = eqb (length bs) (size_at (get_or bs 0 0))
 
 pub carried : (bs : List ℕ) (k : Kind) → 2 ≤ length bs → opcode_at (get_or bs 0 0) ≡ Carried k →
     decoded bs ≡ cond (whole bs) (Ok (instruction k bs)) (Err WrongLength)
-carried bs k h e =
-    ap (λ t. cond t (Err WrongLength) (decoded_as (opcode_at (get_or bs 0 0)) bs)) (le-ltb (length bs) 2 h)
-    ∙ ap (λ o. decoded_as o bs) e
-    ∙ ap (λ o. cond (eqb (length bs) (length_of o (get_or bs 0 0))) (Ok (instruction k bs)) (Err WrongLength)) e
+carried bs k h e = let some = le-ltb (length bs) 2 h in cc

@@ -1,19 +1,17 @@
 -- The map read the other way: the opcode of a kind is where the map has that kind.
-use Rattle.std.proofs.Common.{◌≡◌, ℕ, ◌+◌, ◌%◌, ◌<◌, Bool, true, false, cond, eqb, ltb, Some, None, Option, sym, refl, ap, ◌∙◌, arith, eqb-true}
+use Rattle.std.proofs.Common.{◌≡◌, ℕ, ◌+◌, ◌<◌, Bool, true, false, cond, eqb, ltb, Some, None, Option, sym, refl, ap, ◌∙◌, arith, eqb-true}
 use Rattle.std.proofs.lemmas.Bool.{agree_below_at}
 use Rattle.std.proofs.lemmas.Bool.Decides.{nat_tests}
 use Rattle.isa.specs.Formats.{size_at}
 use Rattle.isa.specs.Map.{opcode_at}
 use Rattle.isa.specs.Opcodes.{opcode_of}
-use Rattle.isa.specs.declared.kinds.Indexing.TheVariants.{Direct, Indexed}
+use Rattle.isa.specs.declared.kinds.Indexing.TheVariants.{Direct}
 use Rattle.isa.specs.declared.kinds.Kind.{Kind}
-use Rattle.isa.specs.declared.kinds.Kind.TheVariants.{Move, Neg, Add, Sub, Mpy, Div, Rem, Not, Or, Xor, And, Cbit, Sbit, Tbit, Chk, Nop, Lcomp, Dcomp, Trap, Test, Callr, Ret, Kcall, Lsl, Lsr, Asl, Asr, Dlsl, Dlsr, Csl, Seb, Seh, Branch, Jump, Call, Loop, Store, Load, Laddr}
+use Rattle.isa.specs.declared.kinds.Kind.TheVariants.{Move, Add, Sub, Mpy, Not, And, Chk, Test, Lsl, Lsr, Asl, Asr, Dlsl, Dlsr, Csl, Branch, Store, Load, Laddr}
 use Rattle.isa.specs.declared.kinds.Opcode.{Opcode}
-use Rattle.isa.specs.declared.kinds.Opcode.TheVariants.{Empty, NotCarried, Kernel, Carried}
-use Rattle.words.specs.declared.relations.Relation.{Relation}
+use Rattle.isa.specs.declared.kinds.Opcode.TheVariants.{Carried}
 use Rattle.words.specs.declared.relations.Relation.TheVariants.{Greater, Less, Equal, LessOrEqual, GreaterOrEqual, NotEqual}
-use Rattle.isa.specs.declared.kinds.Second.{Second}
-use Rattle.isa.specs.declared.kinds.Second.TheVariants.{Register, Field}
+use Rattle.isa.specs.declared.kinds.Second.TheVariants.{Register}
 use Rattle.isa.specs.declared.kinds.Side.TheVariants.{Code, Data}
 use Rattle.isa.specs.declared.kinds.Width.TheVariants.{Byte, Halfword, Word, Double}
 

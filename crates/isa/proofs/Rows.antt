@@ -1,5 +1,5 @@
 -- The table and its rule, each settled at once over all 256 opcodes.
-use Rattle.std.proofs.Common.{◌≡◌, ℕ, ◌%◌, ◌<◌, Bool, true, false, cond, not, eqb, ltb, List, map, get_or, sym, refl, ap, ◌∙◌, zero-add, ltb-true, eqb-true, rules}
+use Rattle.std.proofs.Common.{◌≡◌, ℕ, ◌%◌, ◌<◌, Bool, true, false, cond, not, eqb, ltb, List, map, get_or, refl, ap, ◌∙◌, zero-add, ltb-true, eqb-true, rules}
 use Rattle.std.proofs.lemmas.Bool.{agree_below_at}
 use Rattle.std.proofs.lemmas.List.FromFn.{get_or-map-range_with_len}
 use Rattle.std.specs.List.{range_with_len}
@@ -7,7 +7,7 @@ use Rattle.isa.specs.Formats.{LastBit, displaced, shape_of, size_at}
 use Rattle.isa.specs.Map.{opcode_at, length_of, Ruled}
 use Rattle.isa.specs.declared.kinds.Indexing.TheVariants.{Direct, Indexed}
 use Rattle.isa.specs.declared.kinds.Opcode.{Opcode}
-use Rattle.isa.specs.declared.kinds.Opcode.TheVariants.{Empty, NotCarried, Kernel, Carried}
+use Rattle.isa.specs.declared.kinds.Opcode.TheVariants.{Empty, Carried}
 use Rattle.isa.specs.declared.kinds.Shape.{Shape}
 use Rattle.isa.specs.declared.kinds.Shape.TheVariants.{Memory}
 

@@ -4,7 +4,7 @@ use Rattle.std.proofs.lemmas.List.FromFn.{fill_by_all}
 use Rattle.words.proofs.Extended.{extends}
 use Rattle.words.specs.Extension.{extended}
 use Rattle.std.specs.List.{range_with_len}
-use Rattle.isa.specs.Decoding.{decoded, decoded_as, displacement_in, instruction}
+use Rattle.isa.specs.Decoding.{decoded, displacement_in, instruction}
 use Rattle.isa.specs.Encoded.{Bytes, Spells, Unspelled}
 use Rattle.isa.specs.Formats.{size_at}
 use Rattle.isa.specs.Map.{opcode_at}
@@ -12,8 +12,7 @@ use Rattle.isa.specs.Opcodes.{opcode_of}
 use Rattle.isa.specs.declared.kinds.Instruction.{Instruction}
 use Rattle.isa.specs.declared.kinds.Kind.{Kind}
 use Rattle.isa.specs.declared.kinds.Opcode.{Opcode}
-use Rattle.isa.specs.declared.kinds.Opcode.TheVariants.{Empty, NotCarried, Kernel, Carried}
-use Rattle.isa.specs.declared.kinds.Undecoded.{Undecoded}
+use Rattle.isa.specs.declared.kinds.Opcode.TheVariants.{Carried}
 use Rattle.isa.specs.declared.kinds.Undecoded.TheVariants as undecoded
 use Rattle.isa.proofs.Decoded.{carried, whole}
 use Rattle.isa.proofs.Inverse.{Stands, leads, long_by, stands}
@@ -29,18 +28,11 @@ pub record Read (bs : List ℕ) (i : Instruction) (s : ℕ) : Type 0 where
   pub y : i.y ≡ get_or bs 1 0 % 16
   pub told : i.displacement ≡ displacement_in (drop 2 bs)
 
-judged : (bs : List ℕ) (t : Bool) (o : Opcode) → ltb (length bs) 2 ≡ t → opcode_at (get_or bs 0 0) ≡ o →
-    decoded bs ≡ cond t (Err undecoded.WrongLength) (decoded_as o bs)
-judged bs t o e f = cc
-
 -- bytes that decode to an instruction begin with a carried opcode
 is_carried : (bs : List ℕ) (i : Instruction) (t : Bool) → ltb (length bs) 2 ≡ t → (o : Opcode) → opcode_at (get_or bs 0 0) ≡ o →
     decoded bs ≡ Ok i → (2 ≤ length bs) × (k : Kind) × (opcode_at (get_or bs 0 0) ≡ Carried k)
-is_carried bs i true e o f d = cc (judged bs true o e f)
 is_carried bs i false e (Carried k) f d = (ltb-false (length bs) 2 e, k, f)
-is_carried bs i false e Empty f d = cc (judged bs false Empty e f)
-is_carried bs i false e NotCarried f d = cc (judged bs false NotCarried e f)
-is_carried bs i false e Kernel f d = cc (judged bs false Kernel e f)
+is_carried bs i _ e _ f d = cc
 
 is_whole : (bs : List ℕ) (i : Instruction) (k : Kind) (t : Bool) → whole bs ≡ t →
     cond t (Ok (instruction k bs)) (Err undecoded.WrongLength) ≡ Ok i → (length bs ≡ size_at (get_or bs 0 0)) × (instruction k bs ≡ i)
@@ -54,17 +46,17 @@ read bs i b d =
     let w = is_whole bs i k (whole bs) refl (sym (carried bs k c.0 c.2) ∙ d) in
     let l = leads (get_or bs 0 0) k (b 0) c.2 in
     let i-is : instruction k bs ≡ i = w.1 in
-    let size : i.size ≡ size_at (get_or bs 0 0) = ap (λ j. j.size) (sym i-is) ∙ w.0 in (
+    let size : i.size ≡ size_at (get_or bs 0 0) = cc in (
       l.0,
       record {
-        from = ap (λ j. opcode_of j.kind) (sym i-is) ∙ l.1.from;
-        here = l.1.here ∙ ap (λ n. l.0 + long_by n) (sym size);
+        from = cc;
+        here = cc;
         half = l.1.half;
         size = size;
-        long = ap (λ j. j.size) i-is;
-        x = ap (λ j. j.x) (sym i-is);
-        y = ap (λ j. j.y) (sym i-is);
-        told = ap (λ j. j.displacement) (sym i-is);
+        long = cc;
+        x = cc;
+        y = cc;
+        told = cc;
       },
     )
 
@@ -78,9 +70,7 @@ put k n x y d = record { kind = k; size = n; x = x; y = y; displacement = d }
 
 is-put : (i : Instruction) (n x y d : ℕ) → n ≡ i.size → x ≡ i.x → y ≡ i.y → d ≡ i.displacement → put i.kind n x y d ≡ i
 unfolding put
-is-put i n x y d en ex ey ed =
-    ap (λ m. put i.kind m x y d) en ∙ ap (λ m. put i.kind i.size m y d) ex
-    ∙ ap (λ m. put i.kind i.size i.x m d) ey ∙ ap (put i.kind i.size i.x i.y) ed
+is-put i n x y d en ex ey ed = let fields-are : put i.kind n x y d ≡ put i.kind i.size i.x i.y i.displacement = cc in fields-are
 
 -- bytes of a carried opcode that are as many as it takes, and whose fields are those of i, decode to i
 decodes : (bs : List ℕ) (i : Instruction) → 2 ≤ length bs → opcode_at (get_or bs 0 0) ≡ Carried i.kind →
@@ -88,9 +78,9 @@ decodes : (bs : List ℕ) (i : Instruction) → 2 ≤ length bs → opcode_at (g
     displacement_in (drop 2 bs) ≡ i.displacement → decoded bs ≡ Ok i
 unfolding put
 decodes bs i h o w n x y d =
-    carried bs i.kind h o
-    ∙ ap (λ t. cond t (Ok (instruction i.kind bs)) (Err undecoded.WrongLength)) (eq-eqb (length bs) (size_at (get_or bs 0 0)) w)
-    ∙ ap Ok (is-put i (length bs) (get_or bs 1 0 / 16) (get_or bs 1 0 % 16) (displacement_in (drop 2 bs)) n x y d)
+    let whole-is = eq-eqb (length bs) (size_at (get_or bs 0 0)) w in
+    let is = is-put i (length bs) (get_or bs 1 0 / 16) (get_or bs 1 0 % 16) (displacement_in (drop 2 bs)) n x y d in
+    cc (carried bs i.kind h o)
 
 -- the byte of the fields, and the fields of that byte
 fields : (i : Instruction) → i.x ≤ 15 → i.y ≤ 15 →
