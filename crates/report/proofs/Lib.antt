@@ -1,3 +1,2 @@
-pub mod Cutting
+pub mod Adding
 pub mod Hexes
-pub mod Records

@@ -12,12 +12,14 @@
 -- | `total_text`   | the last line: how many records each section has     |
 use Rattle.std.specs.Prelude.{ℕ, ◌/◌, ◌%◌, false, List, [], ◌∷◌, ◌++◌, length, codes, decimal}
 use Rattle.std.specs.Fmt.{digit_glyph}
+use Rattle.std.specs.List.{flat_map}
 use Rattle.disasm.specs.Text.{text}
 use Rattle.image.specs.declared.records.Placed.{Placed}
 use Rattle.image.specs.declared.records.Record.{Record}
 use Rattle.image.specs.declared.records.Record.TheVariants.{Admit, Grant, Fill, Put, Run}
 use Rattle.isa.specs.declared.kinds.Side.{Side}
 use Rattle.isa.specs.declared.kinds.Side.TheVariants.{Code, Data}
+use Rattle.report.specs.declared.lines.Total.{Total}
 use Rattle.report.specs.declared.parts.Content.{Content}
 use Rattle.report.specs.declared.parts.Content.TheVariants.{Carried, Empty, NotCarried, Kernel, Cut, Odd}
 use Rattle.report.specs.declared.parts.Part.{Part}
@@ -26,8 +28,7 @@ abbrev pub hex : ℕ → List ℕ
 hex b = digit_glyph false (b / 16 % 16) ∷ digit_glyph false (b % 16) ∷ []
 
 abbrev pub hexes : List ℕ → List ℕ
-hexes [] = []
-hexes (b ∷ bs) = hex b ++ hexes bs
+hexes bs = flat_map hex bs
 
 abbrev pub side_text : Side → List ℕ
 side_text Code = codes "code"
@@ -50,17 +51,18 @@ abbrev pub record_text : Placed → List ℕ
 record_text x = decimal x.offset ++ fields x.«record»
 
 abbrev pub content_text : Content → List ℕ
-content_text (Carried i) = codes " " ++ text i
-content_text Empty = codes " empty"
-content_text NotCarried = codes " not carried"
-content_text Kernel = codes " kernel"
-content_text Cut = codes " cut"
-content_text Odd = codes " odd"
+content_text (Carried i) = text i
+content_text Empty = codes "empty"
+content_text NotCarried = codes "not carried"
+content_text Kernel = codes "kernel"
+content_text Cut = codes "cut"
+content_text Odd = codes "odd"
 
 abbrev pub code_text : Part → List ℕ
-code_text p = codes "  " ++ (decimal p.address ++ (codes " " ++ (hexes p.bytes.now ++ content_text p.content)))
+code_text p =
+    codes "  " ++ (decimal p.address ++ (codes " " ++ (hexes p.bytes.now ++ (codes " " ++ content_text p.content))))
 
-abbrev pub total_text : ℕ → ℕ → ℕ → ℕ → ℕ → List ℕ
-total_text admissions grants fills puts runs =
-    codes "total admissions " ++ (decimal admissions ++ (codes " grants " ++ (decimal grants ++ (codes " fills " ++ (decimal fills
-    ++ (codes " puts " ++ (decimal puts ++ (codes " runs " ++ decimal runs))))))))
+abbrev pub total_text : Total → List ℕ
+total_text t =
+    codes "total admissions " ++ (decimal t.admissions ++ (codes " grants " ++ (decimal t.grants ++ (codes " fills " ++ (decimal t.fills
+    ++ (codes " puts " ++ (decimal t.puts ++ (codes " runs " ++ decimal t.runs))))))))

@@ -1,49 +1,12 @@
 // The lines of a listing.
-ghost use Rattle.std.specs.Prelude.{◌≡◌, ◌%◌, false, [], ◌∷◌, Some};
-ghost use Rattle.report.specs.Lines.{code_text, hex, hexes, record_text, side_text, total_text};
-ghost use Rattle.std.specs.Fmt.{digit_glyph};
+ghost use Rattle.std.specs.Prelude.{◌≡◌, Some};
+ghost use Rattle.report.specs.Lines.{code_text, content_text, hexes, record_text, side_text, total_text};
 
 use super::parts::{Content, Part};
 use disasm::Text;
 use image::{Placed, Record};
 use isa::Side;
 use std::fmt;
-
-// The last hexadecimal digit of a number.
-fn digit(n: u8) -> &'static str
-    ensures { result.now ≡ digit_glyph false (n % 16) ∷ [] }
-{
-    match n % 16 {
-        0 => "0",
-        1 => "1",
-        2 => "2",
-        3 => "3",
-        4 => "4",
-        5 => "5",
-        6 => "6",
-        7 => "7",
-        8 => "8",
-        9 => "9",
-        10 => "a",
-        11 => "b",
-        12 => "c",
-        13 => "d",
-        14 => "e",
-        _ => "f",
-    }
-}
-
-// A byte in two hexadecimal digits.
-#[derive(Clone, Copy)]
-struct Hex(u8);
-
-impl fmt::Display for Hex {
-    ghost output = { λ b. Some (hex b.0) };
-
-    fn fmt<W: fmt::Write>(&self, f: &mut fmt::Formatter<W>) -> fmt::Result {
-        write!(f, "{}{}", digit(self.0 / 16), digit(self.0))
-    }
-}
 
 // Bytes in hexadecimal digits, one after another.
 #[derive(Clone, Copy)]
@@ -53,8 +16,8 @@ impl fmt::Display for Hexes<'_> {
     ghost output = { λ b. Some (hexes b.0.now) };
 
     fn fmt<W: fmt::Write>(&self, f: &mut fmt::Formatter<W>) -> fmt::Result {
-        for b in self.0 {
-            write!(f, "{}", Hex(*b))?;
+        for &b in self.0 {
+            write!(f, "{b:02x}")?;
         }
         Ok(())
     }
@@ -110,30 +73,37 @@ fn side_name(side: Side) -> &'static str
     }
 }
 
-// A part of a code fill: its address, its bytes, and what they are.
-#[derive(Clone, Copy)]
-pub struct CodeLine<'a>(pub Part<'a>);
-
-impl fmt::Display for CodeLine<'_> {
-    ghost output = { λ l. Some (code_text l.0) };
+// What the bytes of a part are.
+impl fmt::Display for Content {
+    ghost output = { λ c. Some (content_text c) };
 
     fn fmt<W: fmt::Write>(&self, f: &mut fmt::Formatter<W>) -> fmt::Result {
-        let address = self.0.address;
-        let bytes = Hexes(self.0.bytes);
-        match self.0.content {
-            Content::Carried(i) => write!(f, "  {address} {bytes} {}", Text(i)),
-            Content::Empty => write!(f, "  {address} {bytes} empty"),
-            Content::NotCarried => write!(f, "  {address} {bytes} not carried"),
-            Content::Kernel => write!(f, "  {address} {bytes} kernel"),
-            Content::Cut => write!(f, "  {address} {bytes} cut"),
-            Content::Odd => write!(f, "  {address} {bytes} odd"),
+        match *self {
+            Content::Carried(i) => write!(f, "{}", Text(i)),
+            Content::Empty => write!(f, "empty"),
+            Content::NotCarried => write!(f, "not carried"),
+            Content::Kernel => write!(f, "kernel"),
+            Content::Cut => write!(f, "cut"),
+            Content::Odd => write!(f, "odd"),
         }
+    }
+}
+
+// A part of a code fill: its address, its bytes, and what they are.
+impl fmt::Display for Part<'_> {
+    ghost output = { λ p. Some (code_text p) };
+
+    fn fmt<W: fmt::Write>(&self, f: &mut fmt::Formatter<W>) -> fmt::Result {
+        let address = self.address;
+        let bytes = Hexes(self.bytes);
+        let content = self.content;
+        write!(f, "  {address} {bytes} {content}")
     }
 }
 
 // How many records each section of an image has.
 #[derive(Clone, Copy)]
-pub struct TotalLine {
+pub struct Total {
     pub admissions: usize,
     pub grants: usize,
     pub fills: usize,
@@ -141,11 +111,11 @@ pub struct TotalLine {
     pub runs: usize,
 }
 
-impl fmt::Display for TotalLine {
-    ghost output = { λ t. Some (total_text t.admissions t.grants t.fills t.puts t.runs) };
+impl fmt::Display for Total {
+    ghost output = { λ t. Some (total_text t) };
 
     fn fmt<W: fmt::Write>(&self, f: &mut fmt::Formatter<W>) -> fmt::Result {
-        let TotalLine {
+        let Total {
             admissions,
             grants,
             fills,

@@ -1,15 +1,10 @@
 // The listing of an image, as one text.
-ghost use Rattle.std.specs.Prelude.{◌≡◌, ℕ, List, ◌++◌, IfOk, string_bytes, OnOk};
-ghost use Rattle.image.specs.Reading.{refusal};
-ghost use Rattle.image.specs.declared.errors.ReadError.TheVariants.{Unreadable as UnreadableAt};
-ghost use Rattle.report.specs.Lines.{record_text};
-ghost use Rattle.report.specs.Listing.{Body, CodeOf, Lists, any_grants, bad_text, code_lines, count_of, grants_code, line, total_of};
-ghost use Rattle.report.specs.Parts.{Covers};
-ghost use Rattle.report.specs.declared.parts.Part.{Part as CodePart};
+ghost use Rattle.std.specs.Prelude.{◌≡◌, IfOk, string_bytes};
+ghost use Rattle.report.specs.Listing.{Adds, CodeAt, Lists, ListsRecords, RecordText, any_grants, count_of, grants_code, total_of};
 
 use super::errors::OutOfMemory;
-use super::lines::{CodeLine, RecordLine, TotalLine};
-use super::parts::parts;
+use super::lines::{RecordLine, Total};
+use super::parts::Parts;
 use image::{Placed, REFUSAL, ReadError, Record, Section, read};
 use isa::Side;
 use std::alloc::Global;
@@ -18,97 +13,72 @@ use std::alloc::Global;
 fn grants(record: Record, p: u16, k: u16) -> bool
     ensures { result ≡ grants_code p k «record».entry }
 {
-    match record {
-        Record::Grant(g) => g.p == p && g.k == k && g.side == Side::Code,
-        _ => false,
-    }
+    matches!(record, Record::Grant(g) if g.p == p && g.k == k && g.side == Side::Code)
 }
 
 // Whether one of the records does.
 fn any_grants(records: &[Placed], p: u16, k: u16) -> bool
     ensures { result ≡ any_grants p k records.now }
 {
-    for placed in records {
-        if grants(placed.record, p, k) {
-            return true;
-        }
-    }
-    false
+    records.iter().any(|placed| grants(placed.record, p, k))
 }
 
 // How many of the records belong to a section.
 fn count(section: Section, records: &[Placed]) -> usize
     ensures { result ≡ count_of section records.now }
 {
-    let mut n = 0;
-    for placed in records {
-        if placed.record.section() == section {
-            n += 1;
-        }
-    }
-    n
+    records
+        .iter()
+        .filter(|placed| placed.record.section() == section)
+        .count()
 }
 
-// Appends the lines of the parts of some bytes.
-fn list_code(out: &mut String, heap: Global, offset: u16, bytes: &[u8]) -> Result<(), OutOfMemory>
-    ensures { OnOk result ((ps : List CodePart) × Covers offset bytes.now ps × (string_bytes out.new ≡ string_bytes out.old ++ code_lines ps)) }
+// How many records each section has.
+fn total(records: &[Placed]) -> Total
+    ensures { result ≡ total_of records.now }
 {
-    let parts = parts(heap, offset, bytes)?;
-    for part in parts.iter() {
-        writeln!(out, "{}", CodeLine(*part))?;
+    Total {
+        admissions: count(Section::Admissions, records),
+        grants: count(Section::Grants, records),
+        fills: count(Section::Fills, records),
+        puts: count(Section::Puts, records),
+        runs: count(Section::Runs, records),
+    }
+}
+
+// Adds the lines of the parts of some bytes.
+fn list_code(out: &mut String, offset: u16, bytes: &[u8]) -> Result<(), OutOfMemory>
+    ensures { Adds (string_bytes out.old) (string_bytes out.new) (CodeAt offset bytes.now) result }
+{
+    for part in Parts::new(offset, bytes) {
+        writeln!(out, "{part}")?;
     }
     Ok(())
 }
 
-// Appends the line of a record, and for a fill into a code frame the lines of its instructions.
-fn list_record(
-    out: &mut String,
-    heap: Global,
-    all: &[Placed],
-    placed: Placed,
-) -> Result<(), OutOfMemory>
-    ensures { OnOk result ((code : List ℕ) × CodeOf all.now placed.entry.«record» code × (string_bytes out.new ≡ string_bytes out.old ++ (line (record_text placed.entry) ++ code))) }
+// Adds the line of a record, and for a fill into a code frame the lines of its instructions.
+fn list_record(out: &mut String, all: &[Placed], placed: Placed) -> Result<(), OutOfMemory>
+    ensures { Adds (string_bytes out.old) (string_bytes out.new) (RecordText all.now placed.entry) result }
 {
     writeln!(out, "{}", RecordLine(placed))?;
-    if let Record::Fill(fill) = placed.record {
-        if any_grants(all, fill.p, fill.k) {
-            list_code(out, heap, fill.offset, fill.bytes)?;
+    match placed.record {
+        Record::Fill(fill) if any_grants(all, fill.p, fill.k) => {
+            list_code(out, fill.offset, fill.bytes)
         }
+        _ => Ok(()),
     }
-    Ok(())
 }
 
-// Appends the lines of all records.
-fn list_records(out: &mut String, heap: Global, all: &[Placed]) -> Result<(), OutOfMemory>
-    ensures { OnOk result ((body : List ℕ) × Body all.now all.now body × (string_bytes out.new ≡ string_bytes out.old ++ body)) }
+// The listing of an image that can be read.
+fn list_records(heap: Global, records: &[Placed]) -> Result<String, OutOfMemory>
+    ensures { IfOk result (λ s. ListsRecords records.now (string_bytes s)) }
 {
-    for placed in all {
-        list_record(out, heap, all, *placed)?;
+    let mut out = String::new(heap);
+    for placed in records {
+        list_record(&mut out, records, *placed)?;
     }
-    Ok(())
-}
-
-// Appends the last line: how many records each section has.
-fn list_total(out: &mut String, all: &[Placed]) -> Result<(), OutOfMemory>
-    ensures { OnOk result (string_bytes out.new ≡ string_bytes out.old ++ line (total_of all.now)) }
-{
-    let total = TotalLine {
-        admissions: count(Section::Admissions, all),
-        grants: count(Section::Grants, all),
-        fills: count(Section::Fills, all),
-        puts: count(Section::Puts, all),
-        runs: count(Section::Runs, all),
-    };
-    writeln!(out, "{total}")?;
-    Ok(())
-}
-
-// Appends the line of an image that is refused at an offset.
-fn list_refusal(out: &mut String, offset: usize) -> Result<(), OutOfMemory>
-    ensures { OnOk result (string_bytes out.new ≡ string_bytes out.old ++ line (bad_text (refusal (UnreadableAt offset)))) }
-{
-    writeln!(out, "bad {REFUSAL} {offset}")?;
-    Ok(())
+    writeln!(out, "{}", total(records))?;
+    Ok(out)
 }
 
 // The listing of an image: a line for each record with the instructions that it fills in, and a total;
@@ -116,14 +86,9 @@ fn list_refusal(out: &mut String, offset: usize) -> Result<(), OutOfMemory>
 pub fn list(heap: Global, bytes: &[u8]) -> Result<String, OutOfMemory>
     ensures { IfOk result (λ s. Lists bytes.now (string_bytes s)) }
 {
-    let mut out = String::new(heap);
     match read(heap, bytes) {
-        Ok(records) => {
-            list_records(&mut out, heap, &records)?;
-            list_total(&mut out, &records)?;
-        }
-        Err(ReadError::Unreadable(offset)) => list_refusal(&mut out, offset)?,
-        Err(ReadError::Memory) => return Err(OutOfMemory),
+        Ok(records) => list_records(heap, &records),
+        Err(ReadError::Unreadable(offset)) => Ok(format!(in heap; "bad {REFUSAL} {offset}\n")?),
+        Err(ReadError::Memory) => Err(OutOfMemory),
     }
-    Ok(out)
 }

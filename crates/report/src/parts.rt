@@ -1,12 +1,9 @@
 // The bytes of a code fill, part by part: instructions, and bytes that are none.
-ghost use Rattle.std.specs.Prelude.{◌≡◌, ◌<◌, ◌≤◌, length, IfOk, slice_index};
-ghost use Rattle.isa.specs.Map.{length_at, opcode_at};
-ghost use Rattle.isa.specs.declared.kinds.Kind.{Kind};
-ghost use Rattle.isa.specs.declared.kinds.Opcode.TheVariants.{Carried as CarriedOpcode};
-ghost use Rattle.report.specs.Parts.{Begins, Covers};
+ghost use Rattle.std.specs.Prelude.{◌≡◌, ◌+◌, ◌<◌, ◌^◌, [], length, MatchOption};
+ghost use Rattle.std.specs.Iterator.{at_most};
+ghost use Rattle.report.specs.Parts.{Begins, GivesPart, content_of};
 
-use isa::{Instruction, Opcode, decode, lookup};
-use std::alloc::{AllocError, Global};
+use isa::{Instruction, Undecoded, decode, lookup};
 
 // What the bytes of a part are.
 #[derive(Clone, Copy)]
@@ -21,6 +18,21 @@ pub enum Content {
     Odd,
 }
 
+// Bytes at an even address, by their decoding.
+impl From<Result<Instruction, Undecoded>> for Content {
+    ghost from_gives = { λ r c. c ≡ content_of r };
+
+    fn from(decoded: Result<Instruction, Undecoded>) -> Content {
+        match decoded {
+            Ok(instruction) => Content::Carried(instruction),
+            Err(Undecoded::Empty) => Content::Empty,
+            Err(Undecoded::NotCarried) => Content::NotCarried,
+            Err(Undecoded::Kernel) => Content::Kernel,
+            Err(Undecoded::WrongLength) => Content::Cut,
+        }
+    }
+}
+
 // Some bytes at an address of a page, and what they are.
 #[derive(Clone, Copy)]
 pub struct Part<'a> {
@@ -30,59 +42,59 @@ pub struct Part<'a> {
 }
 
 // How many of the bytes, which begin at `address`, belong to the first part, and what they are.
-fn first(address: usize, bytes: &[u8]) -> (usize, Content)
-    requires { 0 < length bytes.now }
-    ensures { Begins address bytes.now result.0 result.1 }
+fn first(address: usize, bytes: &[u8]) -> Option<(usize, Content)>
+    ensures { MatchOption result (bytes.now ≡ []) (λ r. Begins address bytes.now r.0 r.1) }
 {
+    let op = bytes.first()?;
     if address % 2 == 1 {
-        return (1, Content::Odd);
+        return Some((1, Content::Odd));
     }
-    let [op, _, ..] = bytes else {
-        return (bytes.len(), Content::Cut);
-    };
-    let (cell, size) = lookup(*op);
-    match cell {
-        Opcode::Empty => (2, Content::Empty),
-        Opcode::NotCarried => (2, Content::NotCarried),
-        Opcode::Kernel => (2, Content::Kernel),
-        Opcode::Carried(_) => carried(usize::from(size), bytes),
+    // An empty opcode has no size of its own, and the bytes may end before the instruction does.
+    let (_, size) = lookup(*op);
+    let size = usize::from(size).max(2).min(bytes.len());
+    Some((size, Content::from(decode(&bytes[..size]))))
+}
+
+// The parts of some bytes that are left, and the address of the first.
+#[derive(Drop)]
+pub struct Parts<'a> {
+    pub address: usize,
+    pub bytes: &'a [u8],
+    ghost fits: { address + length bytes.now < 2 ^ 64 },
+}
+
+impl<'a> Parts<'a> {
+    // All parts of the bytes, which begin at `offset`.
+    pub fn new(offset: u16, bytes: &'a [u8]) -> Parts<'a>
+        ensures address { result.address ≡ offset }
+        ensures bytes { result.bytes.now ≡ bytes.now }
+    {
+        Parts {
+            address: usize::from(offset),
+            bytes,
+        }
     }
 }
 
-// The same where a carried opcode of that size stands at an even address; the contract takes 0 for it,
-// since only the parity counts.
-fn carried(size: usize, bytes: &[u8]) -> (usize, Content)
-    requires long { 2 ≤ length bytes.now }
-    requires cell { (k : Kind) × (opcode_at (slice_index bytes.now 0) ≡ CarriedOpcode k) }
-    requires size { size ≡ length_at (slice_index bytes.now 0) }
-    ensures { Begins 0 bytes.now result.0 result.1 }
-{
-    if bytes.len() < size {
-        return (bytes.len(), Content::Cut);
-    }
-    match decode(&bytes[0..size]) {
-        Ok(instruction) => (size, Content::Carried(instruction)),
-        // not reached: a carried opcode with all its bytes decodes
-        Err(_) => (bytes.len(), Content::Cut),
-    }
-}
+impl<'a> Iterator for Parts<'a> {
+    type Item = Part<'a>;
 
-// All parts of the bytes, which begin at `offset`.
-pub fn parts<'a>(heap: Global, offset: u16, bytes: &'a [u8]) -> Result<Vec<Part<'a>>, AllocError>
-    ensures { IfOk result (λ v. Covers offset bytes.now v.items) }
-{
-    let mut out = Vec::new(heap);
-    let mut rest = bytes;
-    while !rest.is_empty() {
-        let address = usize::from(offset) + (bytes.len() - rest.len());
-        let (size, content) = first(address, rest);
-        let (front, after) = rest.split_at(size);
-        out.push(Part {
+    ghost next_gives = { λ s r t. GivesPart s.address s.bytes.now t.address t.bytes.now r };
+
+    ghost remaining = { λ s. at_most (length s.bytes.now) };
+
+    fn next(&mut self) -> Option<Part<'a>> {
+        let address = self.address;
+        let (size, content) = first(address, self.bytes)?;
+        let (bytes, rest) = self.bytes.split_at(size);
+        *self = Parts {
+            address: address + size,
+            bytes: rest,
+        };
+        Some(Part {
             address,
-            bytes: front,
+            bytes,
             content,
-        })?;
-        rest = after;
+        })
     }
-    Ok(out)
 }

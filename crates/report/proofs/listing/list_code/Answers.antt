@@ -1,15 +1,16 @@
-use Rattle.std.proofs.Common.{sym, subst}
-use Rattle.report.specs.Parts.{Covers}
-use Rattle.report.proofs.Records.{code_all, code_more}
+use Rattle.std.proofs.Common.{[], refl}
+use Rattle.report.proofs.Adding.{code_more, leaves_more, leaves_none}
 use Rattle.report.proofs.listing.list_code.Goals as goal
+
+pub loop-part-init : goal.loop-part-init
+loop-part-init c =
+    rw (c.into_iter-part-iterator.ensures.into_iter_gives, c.new-part-items.ensures.address, c.new-part-items.ensures.bytes)
+    (λ rest code. (rest, code, refl))
 
 pub loop-part-preserved : goal.loop-part-preserved
 loop-part-preserved c =
-    code_more _ _ _ _ _ _ c.loop-part-test.true c.in_ok-writeln.ensures.bytes c.loop-part.invariant
+    let gave = c.in-Some.ensures.steps in
+    leaves_more _ _ _ _ _ _ _ c.loop-part.invariant c.in_ok-writeln.ensures.bytes (code_more _ _ _ _ _ gave.0 gave.1)
 
 pub returns : goal.returns
-returns c = (
-  c.deref-part-items.result.now,
-  subst (Covers c.args.offset c.args.bytes.now) (sym c.deref-part-items.ensures.value) c.in_ok-parts.ensures,
-  code_all _ _ _ _ c.loop-part-test.false c.loop-part.invariant,
-)
+returns c = leaves_none _ _ _ _ c.loop-part.invariant ([], c.in-None.ensures.steps, refl)
