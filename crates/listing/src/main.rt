@@ -1,7 +1,6 @@
 // Lists the start image on standard input: what it will do, record by record.
 #![tactic(auto)]
 
-use anyhow::anyhow;
 use image::LIMIT;
 use report::list;
 use std::io::Read;
@@ -13,9 +12,7 @@ fn run(rt: &HostRuntime) -> anyhow::Result<()> {
     let heap = rt.alloc();
     let mut bytes = Vec::new(heap);
     rt.stdin().take(MOST).read_to_end(&mut bytes)?;
-    let Ok(text) = list(heap, &bytes) else {
-        return Err(anyhow!("there is no memory for the listing"));
-    };
+    let text = list(heap, &bytes)?;
     rt.print(text.as_str())?;
     Ok(())
 }

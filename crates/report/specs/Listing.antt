@@ -1,22 +1,22 @@
 -- Listings: the whole text that an image gives.
 --
--- | word          | what it is                                                                |
--- |---------------|---------------------------------------------------------------------------|
--- | `line`        | a text with the end of a line                                             |
--- | `Adds`        | that, where a function succeeds, it adds such a text at the end of another |
--- | `code_lines`  | the lines of some parts                                                   |
--- | `on_code`     | whether a side is the code side                                           |
--- | `grants_code` | whether a record grants a frame of a process to its code side             |
--- | `any_grants`  | whether one of some records does                                          |
--- | `CodeAt`      | the lines of the parts of bytes at an address                             |
--- | `CodeOf`      | the lines of the instructions of a record: of a fill into a code frame    |
--- | `RecordText`  | the line of a record, and the lines of its instructions                   |
--- | `Body`        | the lines of some records                                                 |
--- | `count_of`    | how many records belong to a section                                      |
--- | `total_of`    | how many records each section has                                         |
--- | `bad_text`    | the line of an image that is refused: number and offset                   |
--- | `ListsRecords` | the listing of records: their lines, and the last line |
--- | `Lists`       | what a listing is: of records, or of an image that is refused             |
+-- | word           | what it is                                                                        |
+-- |----------------|-----------------------------------------------------------------------------------|
+-- | `line`         | a text with the end of a line                                                     |
+-- | `Adds`         | that a call, where it succeeds, adds a text with a property at the end of another |
+-- | `code_lines`   | the lines of some parts                                                           |
+-- | `on_code`      | whether a side is the code side                                                   |
+-- | `grants_code`  | whether a record grants a frame of a process to its code side                     |
+-- | `any_grants`   | whether one of some records does                                                  |
+-- | `CodeAt`       | the lines of the parts of bytes at an address                                     |
+-- | `CodeOf`       | the lines of the instructions of a record: of a fill into a code frame            |
+-- | `RecordText`   | the line of a record, and the lines of its instructions                           |
+-- | `Body`         | the lines of some records                                                         |
+-- | `count_of`     | how many records belong to a section                                              |
+-- | `total_of`     | how many records each section has                                                 |
+-- | `bad_text`     | the line of an image that is refused: number and offset                           |
+-- | `ListsRecords` | the listing of records: their lines, and the last line                            |
+-- | `Lists`        | what a listing is: of records, or of an image that is refused                     |
 use Rattle.std.specs.Prelude.{◌≡◌, ℕ, ◌≤◌, Bool, true, false, ◌&&◌, ◌⊎◌, List, [], ◌∷◌, ◌++◌, length, count_by, codes, decimal, MatchBool, OnOk, Result, ◌==◌}
 use Rattle.std.specs.List.{flat_map, list_any}
 use Rattle.image.specs.Format.{number, section_of}

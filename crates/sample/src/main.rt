@@ -1,7 +1,7 @@
 // Writes the sample image to standard output: the shrinkage program of docs/shrinkage.md.
 #![tactic(auto)]
 
-use anyhow::anyhow;
+use anyhow::Context;
 use image::{Admission, Fill, Grant, Put, Record, Run, write};
 use isa::{Indexing, Instruction, Kind, Second, Side, Width};
 use std::alloc::{AllocError, Global};
@@ -9,17 +9,6 @@ use std::io::Write;
 
 // Traps on integer overflow and on a zero divisor.
 const TRAPS: u32 = 0x0000_c000;
-
-// An instruction of two registers.
-fn pair(kind: Kind, x: u8, y: u8) -> Instruction {
-    Instruction {
-        kind,
-        size: 2,
-        x,
-        y,
-        displacement: 0,
-    }
-}
 
 // An instruction with a short displacement.
 fn short(kind: Kind, x: u8, y: u8, displacement: u32) -> Instruction {
@@ -29,6 +18,14 @@ fn short(kind: Kind, x: u8, y: u8, displacement: u32) -> Instruction {
         x,
         y,
         displacement,
+    }
+}
+
+// An instruction of two registers.
+fn pair(kind: Kind, x: u8, y: u8) -> Instruction {
+    Instruction {
+        size: 2,
+        ..short(kind, x, y, 0)
     }
 }
 
@@ -53,16 +50,16 @@ fn program() -> [Instruction; 11] {
     ]
 }
 
-// The bytes of the program, or none where an instruction does not fit.
-fn assemble(heap: Global) -> Result<Option<Vec<u8>>, AllocError> {
+// The bytes of the program.
+fn assemble(heap: Global) -> anyhow::Result<Vec<u8>> {
     let mut code = Vec::new(heap);
     for instruction in program() {
-        let Some(encoding) = instruction.encode() else {
-            return Ok(None);
-        };
+        let encoding = instruction
+            .encode()
+            .context("an instruction does not fit its format")?;
         code.extend_from_slice(encoding.as_slice())?;
     }
-    Ok(Some(code))
+    Ok(code)
 }
 
 // The fired dimensions, in hundredths of a millimetre.
@@ -129,14 +126,10 @@ fn image<'a>(
 
 fn run(rt: &HostRuntime) -> anyhow::Result<()> {
     let heap = rt.alloc();
-    let Some(code) = assemble(heap)? else {
-        return Err(anyhow!("an instruction does not fit its format"));
-    };
+    let code = assemble(heap)?;
     let shrinkage = 1_150u32.to_be_bytes();
     let fired = fired(heap)?;
-    let Some(bytes) = image(heap, &code, &shrinkage, &fired) else {
-        return Err(anyhow!("the image cannot be written"));
-    };
+    let bytes = image(heap, &code, &shrinkage, &fired).context("the image cannot be written")?;
     rt.stdout().write_all(&bytes)?;
     Ok(())
 }

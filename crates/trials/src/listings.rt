@@ -7,9 +7,7 @@ use std::alloc::Global;
 use std::test::Fail;
 
 fn lists(heap: Global, bytes: &[u8], text: &str) -> Result<(), Fail> {
-    let Ok(listing) = list(heap, bytes) else {
-        return Err(Fail::new("no memory"));
-    };
+    let listing = list(heap, bytes)?;
     check(listing.as_str() == text, text)
 }
 
@@ -27,9 +25,7 @@ fn code(heap: Global, offset: u16, bytes: &[u8], text: &str) -> Result<(), Fail>
         offset,
         bytes,
     };
-    let Ok(image) = write(heap, &[Record::Grant(grant), Record::Fill(fill)]) else {
-        return Err(Fail::new("not written"));
-    };
+    let image = write(heap, &[Record::Grant(grant), Record::Fill(fill)])?;
     lists(heap, &image, text)
 }
 
@@ -84,9 +80,7 @@ fn every_record_has_its_line(rt: HostRuntime) -> Result<(), Fail> {
         }),
         Record::Run(Run { p: 3, n: 1000001 }),
     ];
-    let Ok(image) = write(heap, &records) else {
-        return Err(Fail::new("not written"));
-    };
+    let image = write(heap, &records)?;
     let text = "2 admit p 65535 first 1 count 2
 10 grant p 3 data page 4294967295 k 1
 22 fill p 3 k 1 offset 4096 length 0
