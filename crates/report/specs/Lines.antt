@@ -4,7 +4,6 @@
 -- |----------------|------------------------------------------------------|
 -- | `hex`          | a byte in two hexadecimal digits                     |
 -- | `hexes`        | bytes in hexadecimal digits                          |
--- | `side_text`    | the name of a side                                   |
 -- | `fields`       | the name of a record and its fields                  |
 -- | `record_text`  | the line of a record: its offset, name and fields    |
 -- | `content_text` | what the bytes of a part are                         |
@@ -17,8 +16,7 @@ use Rattle.disasm.specs.Text.{text}
 use Rattle.image.specs.declared.records.Placed.{Placed}
 use Rattle.image.specs.declared.records.Record.{Record}
 use Rattle.image.specs.declared.records.Record.TheVariants.{Admit, Grant, Fill, Put, Run}
-use Rattle.isa.specs.declared.kinds.Side.{Side}
-use Rattle.isa.specs.declared.kinds.Side.TheVariants.{Code, Data}
+use Rattle.isa.specs.Sides.{side_text}
 use Rattle.report.specs.declared.lines.Total.{Total}
 use Rattle.report.specs.declared.parts.Content.{Content}
 use Rattle.report.specs.declared.parts.Content.TheVariants.{Carried, Empty, NotCarried, Kernel, Cut, Odd}
@@ -29,10 +27,6 @@ hex b = digit_glyph false (b / 16 % 16) ∷ digit_glyph false (b % 16) ∷ []
 
 abbrev pub hexes : List ℕ → List ℕ
 hexes bs = flat_map hex bs
-
-abbrev pub side_text : Side → List ℕ
-side_text Code = codes "code"
-side_text Data = codes "data"
 
 abbrev pub fields : Record → List ℕ
 fields (Admit a) =

@@ -1,11 +1,10 @@
 // The lines of a listing.
-ghost use Rattle.std.specs.Prelude.{◌≡◌, Some};
-ghost use Rattle.report.specs.Lines.{code_text, content_text, hexes, record_text, side_text, total_text};
+ghost use Rattle.std.specs.Prelude.{Some};
+ghost use Rattle.report.specs.Lines.{code_text, content_text, hexes, record_text, total_text};
 
 use super::parts::{Content, Part};
 use disasm::Text;
 use image::{Placed, Record};
-use isa::Side;
 use std::fmt;
 
 // Bytes in hexadecimal digits, one after another.
@@ -38,38 +37,22 @@ impl fmt::Display for RecordLine<'_> {
                 "{offset} admit p {} first {} count {}",
                 a.p, a.first, a.count
             ),
-            Record::Grant(g) => {
-                write!(
-                    f,
-                    "{offset} grant p {} {} page {} k {}",
-                    g.p,
-                    side_name(g.side),
-                    g.page,
-                    g.k
-                )
-            }
-            Record::Fill(i) => {
-                write!(
-                    f,
-                    "{offset} fill p {} k {} offset {} length {}",
-                    i.p,
-                    i.k,
-                    i.offset,
-                    i.bytes.len()
-                )
-            }
+            Record::Grant(g) => write!(
+                f,
+                "{offset} grant p {} {} page {} k {}",
+                g.p, g.side, g.page, g.k
+            ),
+            Record::Fill(i) => write!(
+                f,
+                "{offset} fill p {} k {} offset {} length {}",
+                i.p,
+                i.k,
+                i.offset,
+                i.bytes.len()
+            ),
             Record::Put(u) => write!(f, "{offset} put p {} r {} value {}", u.p, u.r, u.value),
             Record::Run(e) => write!(f, "{offset} run p {} n {}", e.p, e.n),
         }
-    }
-}
-
-fn side_name(side: Side) -> &'static str
-    ensures { result.now ≡ side_text side }
-{
-    match side {
-        Side::Code => "code",
-        Side::Data => "data",
     }
 }
 
