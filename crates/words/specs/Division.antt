@@ -9,7 +9,7 @@
 -- | `remainder_of` | the same for the remainder                                                    |
 -- | `Quotient`     | the laws of a division's answer                                               |
 -- | `Remainder`    | the laws of a remainder's answer                                              |
-use Rattle.std.specs.Prelude.{◌≡◌, ℕ, ◌<◌, false, cond, ℤ, pos, negsuc, ◌+ℤ◌, ◌*ℤ◌, ◌≤ℤ◌, Some, None, Option, ◌==◌, int_div, int_rem, unsigned_abs}
+use Rattle.std.specs.Prelude.{◌≡◌, ℕ, ◌<◌, false, if◌then◌else◌, ℤ, pos, negsuc, ◌+ℤ◌, ◌*ℤ◌, ◌≤ℤ◌, Some, None, Option, ◌==◌, int_div, int_rem, unsigned_abs}
 use Rattle.words.specs.Kept.{Told, kept}
 use Rattle.words.specs.Wholes.{low, signed}
 use Rattle.words.specs.declared.arithmetic.Kept.{Kept}
@@ -28,10 +28,10 @@ pub record Truncates (n d : ℤ) : Type 0 where
   pub only : (q r : ℤ) → Divides n d q r → (q ≡ int_div n d) × (r ≡ int_rem n d)
 
 abbrev pub quotient_of : ℕ → ℕ → Option Kept
-quotient_of a b = cond (b == 0) None (Some (kept (int_div (signed 32 a) (signed 32 b))))
+quotient_of a b = if b == 0 then None else Some (kept (int_div (signed 32 a) (signed 32 b)))
 
 abbrev pub remainder_of : ℕ → ℕ → Option ℕ
-remainder_of a b = cond (b == 0) None (Some (low 32 (int_rem (signed 32 a) (signed 32 b))))
+remainder_of a b = if b == 0 then None else Some (low 32 (int_rem (signed 32 a) (signed 32 b)))
 
 -- where no overflow is told, the dividend is the divisor times the quotient plus the remainder
 pub record Divided (a b : ℕ) (k : Kept) : Type 0 where

@@ -6,13 +6,13 @@
 -- | `lcomp`      | two words compared without a sign                                |
 -- | `dcomp`      | two pairs compared as signed numbers of 64 bits                  |
 -- | `TotalOrder` | a comparison by words is a total order                           |
-use Rattle.std.specs.Prelude.{◌≡◌, ℕ, ◌-◌, ◌^◌, ◌<◌, cond, ◌⊎◌, ℤ, pos, negsuc, int_lt}
+use Rattle.std.specs.Prelude.{◌≡◌, ℕ, ◌-◌, ◌^◌, ◌<◌, if◌then◌else◌, ◌⊎◌, ℤ, pos, negsuc, int_lt}
 use Rattle.words.specs.Pairs.{number_of}
 use Rattle.words.specs.Wholes.{low, signed}
 use Rattle.words.specs.declared.pairs.Pair.{Pair}
 
 unfoldable pub compared : ℤ → ℤ → ℤ
-compared x y = cond (int_lt x y) (negsuc 0) (cond (int_lt y x) (pos 1) (pos 0))
+compared x y = if int_lt x y then negsuc 0 else if int_lt y x then pos 1 else pos 0
 
 abbrev pub lcomp : ℕ → ℕ → ℕ
 lcomp a b = low 32 (compared (pos a) (pos b))

@@ -6,10 +6,10 @@
 -- | `low`    | the number of k bits that a whole number is modulo 2^k          |
 -- | `Within` | a whole number is at least -2^(k-1) and below 2^(k-1)           |
 -- | `Modulo` | a number below m differs from a whole number by a multiple of m |
-use Rattle.std.specs.Prelude.{◌≡◌, ℕ, ◌-◌, ◌%◌, ◌^◌, ◌<◌, cond, ℤ, pos, negsuc, ◌+ℤ◌, ◌-ℤ◌, ◌*ℤ◌, neg_ℤ, ◌≤ℤ◌, ◌<ℤ◌, nat_lt}
+use Rattle.std.specs.Prelude.{◌≡◌, ℕ, ◌-◌, ◌%◌, ◌^◌, ◌<◌, if◌then◌else◌, ℤ, pos, negsuc, ◌+ℤ◌, ◌-ℤ◌, ◌*ℤ◌, neg_ℤ, ◌≤ℤ◌, ◌<ℤ◌, nat_lt}
 
 unfoldable pub signed : ℕ → ℕ → ℤ
-signed k v = cond (nat_lt v (2 ^ (k - 1))) (pos v) (pos v -ℤ pos (2 ^ k))
+signed k v = if nat_lt v (2 ^ (k - 1)) then pos v else pos v -ℤ pos (2 ^ k)
 
 unfoldable pub low : ℕ → ℤ → ℕ
 low k (pos n) = n % 2 ^ k

@@ -1,5 +1,5 @@
 // The six relations between a signed word and an operand.
-ghost use Rattle.std.specs.Prelude.{◌≡◌, Decides};
+ghost use Rattle.std.specs.Prelude.{◌≡◌, ◌↔◌, IsTrue};
 ghost use Rattle.words.specs.Relations.{Related, related};
 ghost use Rattle.words.specs.Wholes.{signed};
 
@@ -20,7 +20,7 @@ pub enum Relation {
 impl Relation {
     fn between(self, x: i64, y: i64) -> bool
         ensures value { result ≡ related self x y }
-        ensures decides { Decides result (Related self x y) }
+        ensures decides { IsTrue result ↔ Related self x y }
     {
         match self {
             Relation::Greater => x > y,
@@ -34,7 +34,7 @@ impl Relation {
 
     pub fn holds<T: Operand>(self, a: u32, b: T) -> bool
         ensures value { result ≡ related self (signed 32 a) (T.value_of b) }
-        ensures decides { Decides result (Related self (signed 32 a) (T.value_of b)) }
+        ensures decides { IsTrue result ↔ Related self (signed 32 a) (T.value_of b) }
     {
         self.between(whole(a), b.whole())
     }
