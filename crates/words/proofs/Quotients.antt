@@ -1,14 +1,15 @@
 -- Products and quotients of signed words: they fit 64 bits, and the quotient toward zero is the only one.
-use Rattle.std.proofs.Common.{◌≡◌, ℕ, zero, suc, ◌+◌, ◌*◌, ◌/◌, ◌^◌, ◌<◌, ◌≤◌, ℤ, pos, negsuc, ◌*ℤ◌, neg_ℤ, nat_abs, ◌≤ℤ◌, ◌<ℤ◌, Some, sym, refl, ap, ◌∙◌, mod-lt, mul-le-mul_left, mul-zero, div-le_self, arith, w64, SFits, ne_eqb}
+use Rattle.std.proofs.Common.{◌≡◌, ℕ, zero, suc, ◌+◌, ◌*◌, ◌/◌, ◌^◌, ◌<◌, ◌≤◌, ℤ, pos, negsuc, ◌*ℤ◌, neg_ℤ, nat_abs, ◌≤ℤ◌, ◌<ℤ◌, Some, sym, refl, ap, ◌∙◌, mod-lt, mul-le-mul_left, mul-zero, div-le_self, arith, w64, SFits, of_z, ne_eqb}
 use native.Mathlib.Nat.{div-add-mod}
 use borrow.Author.Differences.{down, ints, neg_is, up}
 use lib.Signed.{mag_rem, quot_z, rem_z}
 use Rattle.std.proofs.lemmas.Nat.{mul-le}
 use Rattle.std.proofs.lemmas.Int.{by_lt_z, to_z-of_z}
-use Rattle.words.specs.Division.{Divided, Divides, Left, Truncates, remainder_of}
-use Rattle.words.specs.Kept.{Told}
+use Rattle.std.specs.Int.{CanDivide}
+use Rattle.words.specs.Division.{Divided, Divides, Left, Truncates, quotient_of, remainder_of}
+use Rattle.words.specs.Kept.{Told, kept}
 use Rattle.words.specs.declared.arithmetic.Kept.{Kept}
-use Rattle.words.proofs.Signs.{low_signed, mag_within, signed_low, within_mag}
+use Rattle.words.proofs.Signs.{low_signed, mag_within, signed_low, signed-within, within_mag}
 use Rattle.words.specs.Wholes.{low, signed, Within}
 
 size : (z : ℤ) → Within 32 z → nat_abs z ≤ 2 ^ 31
@@ -103,8 +104,29 @@ remainder_fits n d h = let w = remainder_within n d h in omega (arith, ints)
 remainder_exact : (n d : ℤ) → Within 32 n → signed 32 (low 32 (rem_z n d)) ≡ rem_z n d
 remainder_exact n d h = signed_low 32 (rem_z n d) (omega arith) (remainder_within n d h)
 
+-- the machine finds no quotient of words only where the divisor is 0
+bits_left : (d : ℤ) → Within 32 d → 0 < nat_abs d → 0 < of_z w64 d
+bits_left (pos n) w h = omega (arith, ints)
+bits_left (negsuc n) w h = omega (arith, ints)
+
+pub undivided : (a b : ℕ) (n d : ℤ) → a < 2 ^ 32 → b < 2 ^ 32 → n ≡ signed 32 a → d ≡ signed 32 b → (CanDivide w64 n d → ⊥) → b ≡ 0
+undivided a zero n d la lb en ed h = refl
+undivided a (suc b) n d la lb en ed h =
+    let z : 0 < nat_abs d = rw ed (not_zero (suc b) lb (λ e. absurd (omega arith))) in
+    let w : Within 32 n = rw en (signed-within 32 a (omega arith) la) in
+    let v : Within 32 d = rw ed (signed-within 32 (suc b) (omega arith) lb) in
+    absurd (h (bits_left d v z, quotient_fits n d w))
+
+-- and a quotient only where it is not
+pub divisor_counts : (b : ℕ) (d : ℤ) → d ≡ signed 32 b → 0 < of_z w64 d → b ≡ 0 → ⊥
+unfolding signed
+divisor_counts b d e l z = let y : d ≡ pos 0 = e ∙ ap (signed 32) z in absurd (omega (arith, ints, ap (of_z w64) y))
+
 module _ (a b : ℕ) (wa : Within 32 (signed 32 a)) (lb : b < 2 ^ 32) (nb : b ≡ 0 → ⊥) where
-  has_remainder : (r : ℕ) → r ≡ low 32 (rem_z (signed 32 a) (signed 32 b)) → Some r ≡ remainder_of a b
+  pub has_quotient : (k : Kept) → k ≡ kept (quot_z (signed 32 a) (signed 32 b)) → Some k ≡ quotient_of a b
+  has_quotient k h = let e = ne_eqb b 0 nb in rw e (ap Some h)
+
+  pub has_remainder : (r : ℕ) → r ≡ low 32 (rem_z (signed 32 a) (signed 32 b)) → Some r ≡ remainder_of a b
   has_remainder r h = let e = ne_eqb b 0 nb in rw e (ap Some h)
 
   pub divided : (k : Kept) → Told (quot_z (signed 32 a) (signed 32 b)) k → Divided a b k

@@ -1,17 +1,20 @@
-use Rattle.std.proofs.Common.{◌≡◌, ◌∙◌, subst, w64, SFits, rules}
+use borrow.Author.Differences.{ints}
+use Rattle.std.proofs.Common.{◌≡◌, ◌∙◌, ap, subst, arith, w64, to_z, of_z, to_z-of_z, rules}
 use lib.Signed.{rem_z}
-use Rattle.std.proofs.lemmas.Int.{to_z-of_z}
-use Rattle.words.proofs.Quotients.{left, remainder_fits}
+use Rattle.words.proofs.Quotients.{divisor_counts, has_remainder, left, remainder_fits}
 use Rattle.words.specs.Wholes.{low, signed, Within}
 use Rattle.words.proofs.division.remainder.Goals as goal
 
-pub returns-clause-laws : goal.returns-clause-laws
-returns-clause-laws c =
-    let given = c.in_ok-d.ensures in
-    let value = given.0 in
-    let n : SFits w64 c.whole.result = search rules in
-    let d : SFits w64 c.in_ok-d.d = search rules in
-    let f = remainder_fits c.whole.result c.in_ok-d.d c.whole.ensures.within in
-    let e : c.word.result ≡ low 32 (rem_z (signed 32 c.args.a) (signed 32 c.args.b)) = c.word.ensures.value ∙ simp to_z-of_z (cc) in
+pub returns : goal.returns
+returns c =
+    let given = c.in_ok-rest.ensures in
+    let a : to_z w64 (of_z w64 c.whole.result) ≡ signed 32 c.args.a = omega (arith, ints) in
+    let b : to_z w64 (of_z w64 c.whole-2.result) ≡ signed 32 c.args.b = omega (arith, ints) in
+    let n = divisor_counts c.args.b _ b given.0.0 in
     let w : Within 32 (signed 32 c.args.a) = subst (λ z. Within 32 z) c.whole.ensures.value c.whole.ensures.within in
-    left c.args.a c.args.b w (search rules) given.2 _ e
+    let q : c.in_ok-rest.rest ≡ rem_z (signed 32 c.args.a) (signed 32 c.args.b) = cc given.1 in
+    let e = ap (λ z. to_z w64 (of_z w64 z)) q ∙ to_z-of_z (remainder_fits _ _ w) in
+    record {
+      value = has_remainder c.args.a c.args.b w (search rules) n _ (c.word.ensures.value ∙ ap (low 32) e);
+      laws = left c.args.a c.args.b w (search rules) n _ (c.word.ensures.value ∙ ap (low 32) e);
+    }
