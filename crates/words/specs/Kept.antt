@@ -5,6 +5,7 @@
 -- | `outside` | whether a whole number lies outside the signed words, -2^31 to 2^31 - 1          |
 -- | `kept`    | the low 32 bits of an exact result, and whether it lies outside                  |
 -- | `Told`    | overflow is told exactly where the word, read as signed, is not the exact result |
+-- | `Keeps`   | that is kept of an exact result, and overflow is told of it so                   |
 use Rattle.std.specs.Prelude.{◌≡◌, ◌-◌, ◌^◌, Bool, true, false, ◌||◌, ℤ, pos, neg_ℤ, ◌≢◌, int_lt}
 use Rattle.words.specs.Wholes.{low, signed}
 use Rattle.words.specs.declared.arithmetic.Kept.{Kept}
@@ -17,3 +18,7 @@ kept e = record { word = low 32 e; overflow = outside e }
 
 abbrev pub Told : ℤ → Kept → Type 0
 Told e r = (r.overflow ≡ false → signed 32 r.word ≡ e) × (r.overflow ≡ true → signed 32 r.word ≢ e)
+
+pub record Keeps (e : ℤ) (r : Kept) : Type 0 where
+  pub value : r ≡ kept e
+  pub told : Told e r

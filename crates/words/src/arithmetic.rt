@@ -1,6 +1,6 @@
 // Sums, differences and products, by their exact results.
 ghost use Rattle.std.specs.Prelude.{◌≡◌, ◌+ℤ◌, ◌-ℤ◌, ◌*ℤ◌, neg_ℤ};
-ghost use Rattle.words.specs.Kept.{Told, kept};
+ghost use Rattle.words.specs.Kept.{Keeps};
 ghost use Rattle.words.specs.Wholes.{Within, signed};
 
 use super::operand::Operand;
@@ -14,8 +14,7 @@ pub struct Kept {
 }
 
 pub(crate) fn keep(exact: i64) -> Kept
-    ensures value { result ≡ kept exact }
-    ensures told { Told exact result }
+    ensures { Keeps exact result }
 {
     let word = word(exact);
     Kept {
@@ -25,15 +24,13 @@ pub(crate) fn keep(exact: i64) -> Kept
 }
 
 pub fn add<T: Operand>(a: u32, b: T) -> Kept
-    ensures value { result ≡ kept (signed 32 a +ℤ T.value_of b) }
-    ensures told { Told (signed 32 a +ℤ T.value_of b) result }
+    ensures { Keeps (signed 32 a +ℤ T.value_of b) result }
 {
     keep(whole(a) + b.whole())
 }
 
 pub fn subtract<T: Operand>(a: u32, b: T) -> Kept
-    ensures value { result ≡ kept (signed 32 a -ℤ T.value_of b) }
-    ensures told { Told (signed 32 a -ℤ T.value_of b) result }
+    ensures { Keeps (signed 32 a -ℤ T.value_of b) result }
 {
     keep(whole(a) - b.whole())
 }
@@ -49,15 +46,13 @@ fn product(x: i64, y: i64) -> i64
 }
 
 pub fn multiply<T: Operand>(a: u32, b: T) -> Kept
-    ensures value { result ≡ kept (signed 32 a *ℤ T.value_of b) }
-    ensures told { Told (signed 32 a *ℤ T.value_of b) result }
+    ensures { Keeps (signed 32 a *ℤ T.value_of b) result }
 {
     keep(product(whole(a), b.whole()))
 }
 
 pub fn negate(a: u32) -> Kept
-    ensures value { result ≡ kept (neg_ℤ (signed 32 a)) }
-    ensures told { Told (neg_ℤ (signed 32 a)) result }
+    ensures { Keeps (neg_ℤ (signed 32 a)) result }
 {
     keep(-whole(a))
 }
