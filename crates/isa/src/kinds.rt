@@ -101,7 +101,7 @@ pub enum Shape {
     Memory(Indexing),
 }
 
-// A cell of the opcode map.
+// A cell of the opcode map. The map has all four kinds side by side; `Kind::try_from` takes the carried ones.
 #[derive(Clone, Copy, PartialEq, Eq, Debug)]
 pub enum Opcode {
     // no instruction

@@ -5,7 +5,7 @@ ghost use Rattle.report.specs.Parts.{Begins, GivesPart, content_of};
 
 use isa::{Instruction, Undecoded, decode, lookup};
 
-// What the bytes of a part are.
+// What the bytes of a part are. Bytes that are no instruction are listed like the others, so they are no error.
 #[derive(Clone, Copy)]
 pub enum Content {
     Carried(Instruction),

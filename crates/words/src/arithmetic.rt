@@ -6,7 +6,8 @@ ghost use Rattle.words.specs.Wholes.{Within, signed};
 use super::operand::Operand;
 use super::wholes::{whole, word};
 
-// What is kept of an exact result: its low 32 bits, and whether the result is no signed word.
+// What is kept of an exact result: its low 32 bits, and whether the result is no signed word. The word counts in
+// both cases, so the flag stands beside it.
 #[derive(Clone, Copy, PartialEq, Eq, Debug)]
 pub struct Kept {
     pub word: u32,
