@@ -1,8 +1,8 @@
 -- The five sections of an image.
-use Rattle.std.proofs.Common.{◌≡◌, ℕ, ◌+◌, ◌-◌, ◌<◌, Bool, true, false, eqb, List, [], ◌∷◌, ◌++◌, map, length, get_or, take, sym, refl, ap, ◌∙◌, subst, append-nil, arith, length-append}
+use Rattle.std.proofs.Common.{◌≡◌, ℕ, ◌-◌, ◌<◌, Bool, true, false, eqb, List, [], ◌∷◌, ◌++◌, map, length, get_or, sym, refl, ap, ◌∙◌, subst, append-nil, arith, length-append}
 use Rattle.std.specs.List.{flat_map}
-use Rattle.std.proofs.lemmas.List.Elements.{All-head, All-tail, All-weaker, filter-append, filter_more, filter_passes}
-use Rattle.std.proofs.lemmas.Bool.{cond-true, cond-false, eqb-true, eq-eqb, ne_eqb}
+use Rattle.std.proofs.lemmas.List.Elements.{All-head, All-tail, All-weaker, filter-append, filter_passes}
+use Rattle.std.proofs.lemmas.Bool.{cond-true, cond-false, eqb-true}
 use Rattle.image.specs.declared.records.Record.{Record}
 use Rattle.image.specs.declared.records.Section.{Section}
 use Rattle.image.specs.declared.records.Section.TheVariants.{Admissions, Grants, Fills, Puts, Runs}
@@ -45,14 +45,6 @@ pub among_belong : (s : Section) (rs : List Record) → Belong s (among s rs)
 among_belong s rs =
     let test : Record → Bool = λ r. eqb (number (section_of r)) (number s) in
     All-weaker (λ r. test r ≡ true) (λ r. section_of r ≡ s) (λ r e. number_is (section_of r) s (eqb-true _ _ e)) (among s rs) (filter_passes test rs)
-
--- one record more of a list: it is of the section, or not
-module _ (s : Section) (rs : List Record) (i : ℕ) (d : Record) (less : i < length rs) where
-  pub among_in : section_of (get_or rs i d) ≡ s → among s (take (i + 1) rs) ≡ among s (take i rs) ++ get_or rs i d ∷ []
-  among_in e = filter_more _ rs i d less ∙ ap (λ l. among s (take i rs) ++ l) (cond-true _ _ _ (eq-eqb _ _ (ap number e)))
-
-  pub among_out : (section_of (get_or rs i d) ≡ s → ⊥) → among s (take (i + 1) rs) ≡ among s (take i rs)
-  among_out never = filter_more _ rs i d less ∙ ap (λ l. among s (take i rs) ++ l) (cond-false _ _ _ (ne_eqb _ _ (λ e. never (number_is _ s e)))) ∙ append-nil _
 
 -- sections put together have themselves as their sections
 sections-flat : (rss : List (List Record)) → Sectioned order rss → sections (flat rss) ≡ rss

@@ -1,16 +1,16 @@
 -- How long an image is, and what reading one that was written gives.
-use Rattle.std.proofs.Common.{◌≡◌, ℕ, ◌+◌, ◌*◌, ◌<◌, ◌≤◌, cond, List, [], ◌∷◌, ◌++◌, map, length, get_or, take, drop, is_ok, Ok, Err, Result, sym, refl, ap, ◌∙◌, subst, append_assoc, append-nil, arith, length-append}
+use Rattle.std.proofs.Common.{◌≡◌, ℕ, ◌+◌, ◌*◌, ◌≤◌, List, [], ◌∷◌, ◌++◌, map, length, sym, refl, ap, ◌∙◌, subst, append-nil, arith, length-append}
 use Rattle.std.specs.List.{flat_map}
-use Rattle.std.proofs.lemmas.List.{map-append, map_push, take-append-drop, take_more}
+use Rattle.std.proofs.lemmas.List.{map-append, map_push}
 use Rattle.image.specs.declared.errors.ReadError.{ReadError}
 use Rattle.image.specs.declared.errors.ReadError.TheVariants.{Unreadable, Memory}
 use Rattle.image.specs.declared.records.Record.{Record}
 use Rattle.image.specs.declared.records.Section.{Section}
-use Rattle.image.specs.Format.{half, written, section_of, among, sections, flat, Ordered, block, image, places, stand, bare}
+use Rattle.image.specs.Format.{written, among, sections, flat, Ordered, block, image, places, stand, bare}
 use Rattle.image.specs.Reading.{Fails}
-use Rattle.image.specs.Writing.{Adds, total, Writable, Writes}
+use Rattle.image.specs.Writing.{total, Writable, Writes}
 use Rattle.image.proofs.Grammar.{joined-append, length-flat}
-use Rattle.image.proofs.Images.{among_in, among_out, image-is}
+use Rattle.image.proofs.Images.{image-is}
 
 pub total-append : (xs ys : List Record) → total (xs ++ ys) ≡ total xs + total ys
 total-append [] ys = omega arith
@@ -29,24 +29,6 @@ blocks_size (rs ∷ rss) = omega (arith, length-flat (block rs) (flat_map block 
 
 pub image-size : (rs : List Record) → Ordered rs → length (image rs) ≡ 10 + total rs
 image-size rs h = blocks_size (sections rs) ∙ ap (λ n. 10 + n) (ap total h)
-
--- one record more of a section
-module _ (s : Section) (rs : List Record) (i : ℕ) (d : Record) (less : i < length rs) (start old new : List ℕ) (sofar : old ≡ start ++ flat (map written (among s (take i rs)))) where
-  pub written_in : section_of (get_or rs i d) ≡ s → new ≡ old ++ written (get_or rs i d) → new ≡ start ++ flat (map written (among s (take (i + 1) rs)))
-  written_in own e =
-      let x = get_or rs i d in
-      let front = among s (take i rs) in
-      e ∙ ap (λ l. l ++ written x) sofar ∙ append_assoc start (flat (map written front)) (written x)
-      ∙ ap (λ l. start ++ l) (ap (λ l. flat (map written front) ++ l) (sym (append-nil (written x))) ∙ sym (joined-append (λ l. l) (map written front) (written x ∷ []))
-      ∙ ap flat (sym (map_push written front x) ∙ ap (map written) (sym (among_in s rs i d less own))))
-
-  pub written_out : (section_of (get_or rs i d) ≡ s → ⊥) → new ≡ old → new ≡ start ++ flat (map written (among s (take (i + 1) rs)))
-  written_out never e = e ∙ sofar ∙ ap (λ l. start ++ flat (map written l)) (sym (among_out s rs i d less never))
-
--- a count and the records after it
-pub written-block : (rs : List Record) (out start new : List ℕ) (n : ℕ) → start ≡ out ++ half n → n ≡ length rs → new ≡ start ++ flat (map written rs) → new ≡ out ++ flat (block rs)
-written-block rs out start new n e f g =
-    g ∙ ap (λ l. l ++ flat (map written rs)) (e ∙ ap (λ m. out ++ half m) f) ∙ append_assoc out (half (length rs)) (flat (map written rs))
 
 -- one section more of an image
 pub written_section : (rs : List Record) (ss ss' : List Section) (s : Section) (old new : List ℕ) → ss' ≡ ss ++ s ∷ [] → old ≡ flat (flat_map block (map (λ t. among t rs) ss)) → new ≡ old ++ flat (block (among s rs))

@@ -4,6 +4,5 @@ pub mod Images
 pub mod Kept
 pub mod Known
 pub mod Order
-pub mod Sections
 pub mod Several
 pub mod Turns
