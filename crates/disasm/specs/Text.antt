@@ -2,7 +2,6 @@
 --
 -- | word        | what it is                                   |
 -- |-------------|----------------------------------------------|
--- | `by_second` | one text for a register, another for a field |
 -- | `by_width`  | one text for each width                      |
 -- | `mnemonic`  | the name of a kind                           |
 -- | `sign`      | a relation                                   |
@@ -19,6 +18,7 @@ use Rattle.isa.specs.declared.kinds.Instruction.{Instruction}
 use Rattle.isa.specs.declared.kinds.Kind.{Kind}
 use Rattle.isa.specs.declared.kinds.Kind.TheVariants as kind
 use Rattle.isa.specs.declared.kinds.Kind.TheVariants.{Move, Neg, Add, Sub, Mpy, Div, Rem, Not, Or, Xor, And, Cbit, Sbit, Tbit, Chk, Nop, Lcomp, Dcomp, Trap, Test, Callr, Ret, Kcall, Lsl, Lsr, Asl, Asr, Dlsl, Dlsr, Csl, Seb, Seh, Store, Load, Laddr}
+use Rattle.isa.specs.Second.{picked}
 use Rattle.isa.specs.declared.kinds.Second.{Second}
 use Rattle.isa.specs.declared.kinds.Second.TheVariants.{Register, Field}
 use Rattle.words.specs.declared.relations.Relation.{Relation}
@@ -29,10 +29,6 @@ use Rattle.isa.specs.declared.kinds.Side.TheVariants.{Code, Data}
 use Rattle.isa.specs.declared.kinds.Width.{Width}
 use Rattle.isa.specs.declared.kinds.Width.TheVariants.{Byte, Halfword, Word, Double}
 
-abbrev pub by_second : Second → List ℕ → List ℕ → List ℕ
-by_second Register a b = a
-by_second Field a b = b
-
 abbrev pub by_width : Width → List ℕ → List ℕ → List ℕ → List ℕ → List ℕ
 by_width Byte a b c d = a
 by_width Halfword a b c d = b
@@ -40,36 +36,36 @@ by_width Word a b c d = c
 by_width Double a b c d = d
 
 abbrev pub mnemonic : Kind → List ℕ
-mnemonic (Move s) = by_second s (codes "MOVE") (codes "MOVEI")
+mnemonic (Move s) = picked s (codes "MOVE") (codes "MOVEI")
 mnemonic Neg = codes "NEG"
-mnemonic (Add s) = by_second s (codes "ADD") (codes "ADDI")
-mnemonic (Sub s) = by_second s (codes "SUB") (codes "SUBI")
-mnemonic (Mpy s) = by_second s (codes "MPY") (codes "MPYI")
+mnemonic (Add s) = picked s (codes "ADD") (codes "ADDI")
+mnemonic (Sub s) = picked s (codes "SUB") (codes "SUBI")
+mnemonic (Mpy s) = picked s (codes "MPY") (codes "MPYI")
 mnemonic Div = codes "DIV"
 mnemonic Rem = codes "REM"
-mnemonic (Not s) = by_second s (codes "NOT") (codes "NOTI")
+mnemonic (Not s) = picked s (codes "NOT") (codes "NOTI")
 mnemonic Or = codes "OR"
 mnemonic Xor = codes "XOR"
-mnemonic (And s) = by_second s (codes "AND") (codes "ANDI")
+mnemonic (And s) = picked s (codes "AND") (codes "ANDI")
 mnemonic Cbit = codes "CBIT"
 mnemonic Sbit = codes "SBIT"
 mnemonic Tbit = codes "TBIT"
-mnemonic (Chk s) = by_second s (codes "CHK") (codes "CHKI")
+mnemonic (Chk s) = picked s (codes "CHK") (codes "CHKI")
 mnemonic Nop = codes "NOP"
 mnemonic Lcomp = codes "LCOMP"
 mnemonic Dcomp = codes "DCOMP"
 mnemonic Trap = codes "TRAP"
-mnemonic (Test r s) = by_second s (codes "TEST") (codes "TESTI")
+mnemonic (Test r s) = picked s (codes "TEST") (codes "TESTI")
 mnemonic Callr = codes "CALLR"
 mnemonic Ret = codes "RET"
 mnemonic Kcall = codes "KCALL"
-mnemonic (Lsl s) = by_second s (codes "LSL") (codes "LSLI")
-mnemonic (Lsr s) = by_second s (codes "LSR") (codes "LSRI")
-mnemonic (Asl s) = by_second s (codes "ASL") (codes "ASLI")
-mnemonic (Asr s) = by_second s (codes "ASR") (codes "ASRI")
-mnemonic (Dlsl s) = by_second s (codes "DLSL") (codes "DLSLI")
-mnemonic (Dlsr s) = by_second s (codes "DLSR") (codes "DLSRI")
-mnemonic (Csl s) = by_second s (codes "CSL") (codes "CSLI")
+mnemonic (Lsl s) = picked s (codes "LSL") (codes "LSLI")
+mnemonic (Lsr s) = picked s (codes "LSR") (codes "LSRI")
+mnemonic (Asl s) = picked s (codes "ASL") (codes "ASLI")
+mnemonic (Asr s) = picked s (codes "ASR") (codes "ASRI")
+mnemonic (Dlsl s) = picked s (codes "DLSL") (codes "DLSLI")
+mnemonic (Dlsr s) = picked s (codes "DLSR") (codes "DLSRI")
+mnemonic (Csl s) = picked s (codes "CSL") (codes "CSLI")
 mnemonic Seb = codes "SEB"
 mnemonic Seh = codes "SEH"
 mnemonic (kind.Branch r s) = codes "BR"

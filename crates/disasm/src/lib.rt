@@ -4,19 +4,10 @@
 ghost use Rattle.std.specs.Prelude.{◌≡◌, ◌+◌, ◌*◌, Some};
 ghost use Rattle.std.specs.Fmt.{signed_decimal};
 ghost use Rattle.std.specs.Int.{cast_signed, w32};
-ghost use Rattle.disasm.specs.Text.{address, by_second, by_width, distance, mnemonic, operand, sign, text};
+ghost use Rattle.disasm.specs.Text.{address, by_width, distance, mnemonic, operand, sign, text};
 
 use isa::{Indexing, Instruction, Kind, Relation, Second, Shape, Side, Width};
 use std::fmt;
-
-fn by_second(s: Second, register: &'static str, field: &'static str) -> &'static str
-    ensures { result.now ≡ by_second s register.now field.now }
-{
-    match s {
-        Second::Register => register,
-        Second::Field => field,
-    }
-}
 
 fn by_width(
     w: Width,
@@ -40,36 +31,36 @@ fn name(kind: Kind) -> &'static str
     ensures { result.now ≡ mnemonic kind }
 {
     match kind {
-        Kind::Move(s) => by_second(s, "MOVE", "MOVEI"),
+        Kind::Move(s) => s.pick("MOVE", "MOVEI"),
         Kind::Neg => "NEG",
-        Kind::Add(s) => by_second(s, "ADD", "ADDI"),
-        Kind::Sub(s) => by_second(s, "SUB", "SUBI"),
-        Kind::Mpy(s) => by_second(s, "MPY", "MPYI"),
+        Kind::Add(s) => s.pick("ADD", "ADDI"),
+        Kind::Sub(s) => s.pick("SUB", "SUBI"),
+        Kind::Mpy(s) => s.pick("MPY", "MPYI"),
         Kind::Div => "DIV",
         Kind::Rem => "REM",
-        Kind::Not(s) => by_second(s, "NOT", "NOTI"),
+        Kind::Not(s) => s.pick("NOT", "NOTI"),
         Kind::Or => "OR",
         Kind::Xor => "XOR",
-        Kind::And(s) => by_second(s, "AND", "ANDI"),
+        Kind::And(s) => s.pick("AND", "ANDI"),
         Kind::Cbit => "CBIT",
         Kind::Sbit => "SBIT",
         Kind::Tbit => "TBIT",
-        Kind::Chk(s) => by_second(s, "CHK", "CHKI"),
+        Kind::Chk(s) => s.pick("CHK", "CHKI"),
         Kind::Nop => "NOP",
         Kind::Lcomp => "LCOMP",
         Kind::Dcomp => "DCOMP",
         Kind::Trap => "TRAP",
-        Kind::Test(_, s) => by_second(s, "TEST", "TESTI"),
+        Kind::Test(_, s) => s.pick("TEST", "TESTI"),
         Kind::Callr => "CALLR",
         Kind::Ret => "RET",
         Kind::Kcall => "KCALL",
-        Kind::Lsl(s) => by_second(s, "LSL", "LSLI"),
-        Kind::Lsr(s) => by_second(s, "LSR", "LSRI"),
-        Kind::Asl(s) => by_second(s, "ASL", "ASLI"),
-        Kind::Asr(s) => by_second(s, "ASR", "ASRI"),
-        Kind::Dlsl(s) => by_second(s, "DLSL", "DLSLI"),
-        Kind::Dlsr(s) => by_second(s, "DLSR", "DLSRI"),
-        Kind::Csl(s) => by_second(s, "CSL", "CSLI"),
+        Kind::Lsl(s) => s.pick("LSL", "LSLI"),
+        Kind::Lsr(s) => s.pick("LSR", "LSRI"),
+        Kind::Asl(s) => s.pick("ASL", "ASLI"),
+        Kind::Asr(s) => s.pick("ASR", "ASRI"),
+        Kind::Dlsl(s) => s.pick("DLSL", "DLSLI"),
+        Kind::Dlsr(s) => s.pick("DLSR", "DLSRI"),
+        Kind::Csl(s) => s.pick("CSL", "CSLI"),
         Kind::Seb => "SEB",
         Kind::Seh => "SEH",
         Kind::Branch(_, _) => "BR",

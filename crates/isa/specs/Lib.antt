@@ -3,4 +3,5 @@ pub mod Encoded
 pub mod Formats
 pub mod Map
 pub mod Opcodes
+pub mod Second
 pub mod Sides

@@ -2,7 +2,6 @@
 --
 -- | word        | what it is                                                        |
 -- |-------------|-------------------------------------------------------------------|
--- | `plus`      | how far an immediate form stands behind the register form         |
 -- | `column`    | the column of a relation among tests and branches                 |
 -- | `beside`    | how far an indexed form stands behind the direct one              |
 -- | `place`     | the column of an operand's width and indexing                     |
@@ -12,17 +11,13 @@ use Rattle.isa.specs.declared.kinds.Indexing.{Indexing}
 use Rattle.isa.specs.declared.kinds.Indexing.TheVariants.{Direct, Indexed}
 use Rattle.isa.specs.declared.kinds.Kind.{Kind}
 use Rattle.isa.specs.declared.kinds.Kind.TheVariants.{Move, Neg, Add, Sub, Mpy, Div, Rem, Not, Or, Xor, And, Cbit, Sbit, Tbit, Chk, Nop, Lcomp, Dcomp, Trap, Test, Callr, Ret, Kcall, Lsl, Lsr, Asl, Asr, Dlsl, Dlsr, Csl, Seb, Seh, Branch, Jump, Call, Loop, Store, Load, Laddr}
+use Rattle.isa.specs.Second.{picked}
 use Rattle.words.specs.declared.relations.Relation.{Relation}
 use Rattle.words.specs.declared.relations.Relation.TheVariants.{Greater, Less, Equal, LessOrEqual, GreaterOrEqual, NotEqual}
-use Rattle.isa.specs.declared.kinds.Second.{Second}
 use Rattle.isa.specs.declared.kinds.Second.TheVariants.{Register, Field}
 use Rattle.isa.specs.declared.kinds.Side.TheVariants.{Code, Data}
 use Rattle.isa.specs.declared.kinds.Width.{Width}
 use Rattle.isa.specs.declared.kinds.Width.TheVariants.{Byte, Halfword, Word, Double}
-
-abbrev pub plus : Second → ℕ → ℕ
-plus Register by = 0
-plus Field by = by
 
 abbrev pub column : Relation → ℕ
 column Greater = 0
@@ -43,36 +38,36 @@ place Word i = 6 + beside i
 place Double i = 8 + beside i
 
 abbrev pub opcode_of : Kind → Option ℕ
-opcode_of (Move s) = Some (0x01 + plus s 16)
+opcode_of (Move s) = Some (0x01 + picked s 0 16)
 opcode_of Neg = Some 0x02
-opcode_of (Add s) = Some (0x03 + plus s 16)
-opcode_of (Sub s) = Some (0x04 + plus s 16)
-opcode_of (Mpy s) = Some (0x05 + plus s 16)
+opcode_of (Add s) = Some (0x03 + picked s 0 16)
+opcode_of (Sub s) = Some (0x04 + picked s 0 16)
+opcode_of (Mpy s) = Some (0x05 + picked s 0 16)
 opcode_of Div = Some 0x06
 opcode_of Rem = Some 0x07
-opcode_of (Not s) = Some (0x08 + plus s 16)
+opcode_of (Not s) = Some (0x08 + picked s 0 16)
 opcode_of Or = Some 0x09
 opcode_of Xor = Some 0x0a
-opcode_of (And s) = Some (0x0b + plus s 16)
+opcode_of (And s) = Some (0x0b + picked s 0 16)
 opcode_of Cbit = Some 0x0c
 opcode_of Sbit = Some 0x0d
 opcode_of Tbit = Some 0x0e
-opcode_of (Chk s) = Some (0x0f + plus s 16)
+opcode_of (Chk s) = Some (0x0f + picked s 0 16)
 opcode_of Nop = Some 0x10
 opcode_of Lcomp = Some 0x28
 opcode_of Dcomp = Some 0x38
 opcode_of Trap = Some 0x3b
-opcode_of (Test r s) = Some (0x50 + column r + plus s 4)
+opcode_of (Test r s) = Some (0x50 + column r + picked s 0 4)
 opcode_of Callr = Some 0x53
 opcode_of Ret = Some 0x57
 opcode_of Kcall = Some 0x5b
-opcode_of (Lsl s) = Some (0x60 + plus s 16)
-opcode_of (Lsr s) = Some (0x61 + plus s 16)
-opcode_of (Asl s) = Some (0x62 + plus s 16)
-opcode_of (Asr s) = Some (0x63 + plus s 16)
-opcode_of (Dlsl s) = Some (0x64 + plus s 16)
-opcode_of (Dlsr s) = Some (0x65 + plus s 16)
-opcode_of (Csl s) = Some (0x68 + plus s 16)
+opcode_of (Lsl s) = Some (0x60 + picked s 0 16)
+opcode_of (Lsr s) = Some (0x61 + picked s 0 16)
+opcode_of (Asl s) = Some (0x62 + picked s 0 16)
+opcode_of (Asr s) = Some (0x63 + picked s 0 16)
+opcode_of (Dlsl s) = Some (0x64 + picked s 0 16)
+opcode_of (Dlsr s) = Some (0x65 + picked s 0 16)
+opcode_of (Csl s) = Some (0x68 + picked s 0 16)
 opcode_of Seb = Some 0x6a
 opcode_of Seh = Some 0x7a
 opcode_of (Branch r Field) = Some (0x80 + column r + 4)

@@ -1,21 +1,11 @@
 // From an instruction to its bytes.
 ghost use Rattle.std.specs.Prelude.{◌≡◌};
 ghost use Rattle.isa.specs.Encoded.{Encodes};
-ghost use Rattle.isa.specs.Opcodes.{column, opcode_of, place, plus};
+ghost use Rattle.isa.specs.Opcodes.{column, opcode_of, place};
 
 use super::decoder::short_displacement;
 use super::encoding::Encoding;
 use super::kinds::{Indexing, Instruction, Kind, Relation, Second, Side, Width};
-
-// How far the immediate form stands behind the register form.
-fn second(s: Second, by: u8) -> u8
-    ensures { result ≡ plus s by }
-{
-    match s {
-        Second::Register => 0,
-        Second::Field => by,
-    }
-}
 
 // The column of a relation among the tests and branches.
 fn relation_column(r: Relation) -> u8
@@ -49,40 +39,40 @@ fn opcode(kind: Kind) -> Option<u8>
     ensures { result ≡ opcode_of kind }
 {
     match kind {
-        Kind::Move(s) => Some(0x01 + second(s, 16)),
+        Kind::Move(s) => Some(0x01 + s.pick(0, 16)),
         Kind::Neg => Some(0x02),
-        Kind::Add(s) => Some(0x03 + second(s, 16)),
-        Kind::Sub(s) => Some(0x04 + second(s, 16)),
-        Kind::Mpy(s) => Some(0x05 + second(s, 16)),
+        Kind::Add(s) => Some(0x03 + s.pick(0, 16)),
+        Kind::Sub(s) => Some(0x04 + s.pick(0, 16)),
+        Kind::Mpy(s) => Some(0x05 + s.pick(0, 16)),
         Kind::Div => Some(0x06),
         Kind::Rem => Some(0x07),
-        Kind::Not(s) => Some(0x08 + second(s, 16)),
+        Kind::Not(s) => Some(0x08 + s.pick(0, 16)),
         Kind::Or => Some(0x09),
         Kind::Xor => Some(0x0a),
-        Kind::And(s) => Some(0x0b + second(s, 16)),
+        Kind::And(s) => Some(0x0b + s.pick(0, 16)),
         Kind::Cbit => Some(0x0c),
         Kind::Sbit => Some(0x0d),
         Kind::Tbit => Some(0x0e),
-        Kind::Chk(s) => Some(0x0f + second(s, 16)),
+        Kind::Chk(s) => Some(0x0f + s.pick(0, 16)),
         Kind::Nop => Some(0x10),
         Kind::Lcomp => Some(0x28),
         Kind::Dcomp => Some(0x38),
         Kind::Trap => Some(0x3b),
-        Kind::Test(r, s) => Some(0x50 + relation_column(r) + second(s, 4)),
+        Kind::Test(r, s) => Some(0x50 + relation_column(r) + s.pick(0, 4)),
         Kind::Callr => Some(0x53),
         Kind::Ret => Some(0x57),
         Kind::Kcall => Some(0x5b),
-        Kind::Lsl(s) => Some(0x60 + second(s, 16)),
-        Kind::Lsr(s) => Some(0x61 + second(s, 16)),
-        Kind::Asl(s) => Some(0x62 + second(s, 16)),
-        Kind::Asr(s) => Some(0x63 + second(s, 16)),
-        Kind::Dlsl(s) => Some(0x64 + second(s, 16)),
-        Kind::Dlsr(s) => Some(0x65 + second(s, 16)),
-        Kind::Csl(s) => Some(0x68 + second(s, 16)),
+        Kind::Lsl(s) => Some(0x60 + s.pick(0, 16)),
+        Kind::Lsr(s) => Some(0x61 + s.pick(0, 16)),
+        Kind::Asl(s) => Some(0x62 + s.pick(0, 16)),
+        Kind::Asr(s) => Some(0x63 + s.pick(0, 16)),
+        Kind::Dlsl(s) => Some(0x64 + s.pick(0, 16)),
+        Kind::Dlsr(s) => Some(0x65 + s.pick(0, 16)),
+        Kind::Csl(s) => Some(0x68 + s.pick(0, 16)),
         Kind::Seb => Some(0x6a),
         Kind::Seh => Some(0x7a),
         Kind::Branch(Relation::Less | Relation::GreaterOrEqual, Second::Register) => None,
-        Kind::Branch(r, s) => Some(0x80 + relation_column(r) + second(s, 4)),
+        Kind::Branch(r, s) => Some(0x80 + relation_column(r) + s.pick(0, 4)),
         Kind::Jump => Some(0x8b),
         Kind::Call => Some(0x83),
         Kind::Loop => Some(0x87),

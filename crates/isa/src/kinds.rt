@@ -16,6 +16,21 @@ pub enum Second {
     Field,
 }
 
+impl Second {
+    ghost use Rattle.std.specs.Prelude.{◌≡◌};
+    ghost use Rattle.isa.specs.Second.{picked};
+
+    // One of two values: the first for a register, the second for a field.
+    pub fn pick<T: Copy>(self, register: T, field: T) -> T
+        ensures { result ≡ picked self register field }
+    {
+        match self {
+            Second::Register => register,
+            Second::Field => field,
+        }
+    }
+}
+
 // The length of an operand in memory: 1, 2, 4 or 8 bytes.
 #[derive(Clone, Copy, PartialEq, Eq, Debug)]
 pub enum Width {
