@@ -2,6 +2,7 @@
 use super::arithmetic::{LEAST, MINUS, MOST};
 use super::checks::check;
 use super::shifts::pair;
+use std::cmp::Ordering;
 use std::test::Fail;
 use words::{
     Field, Kept, Pair, Relation, add, address, and, compare_unsigned, complement, divide, even,
@@ -27,12 +28,10 @@ const PAIRS: [(u32, u32); 7] = [
 
 // What a comparison of two places in an order answers.
 fn placed(i: usize, j: usize) -> u32 {
-    if i < j {
-        MINUS
-    } else if j < i {
-        1
-    } else {
-        0
+    match i.cmp(&j) {
+        Ordering::Less => MINUS,
+        Ordering::Equal => 0,
+        Ordering::Greater => 1,
     }
 }
 

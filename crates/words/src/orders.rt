@@ -3,17 +3,17 @@ ghost use Rattle.std.specs.Prelude.{◌≡◌};
 ghost use Rattle.words.specs.Orders.{TotalOrder, Word, compared, lcomp};
 ghost use Rattle.words.specs.Wholes.{low};
 
+use std::cmp::Ordering;
+
 // FFFFFFFFh, 0 or 1 as one number is below, equal to or above another.
 #[tactic(auto, using(crate::proofs::Ranks::is_below, crate::proofs::Ranks::is_above, crate::proofs::Ranks::is_same))]
 pub(crate) fn compare(a: i64, b: i64) -> u32
     ensures { result ≡ low 32 (compared a b) }
 {
-    if a < b {
-        0xffff_ffff
-    } else if b < a {
-        1
-    } else {
-        0
+    match a.cmp(&b) {
+        Ordering::Less => 0xffff_ffff,
+        Ordering::Equal => 0,
+        Ordering::Greater => 1,
     }
 }
 
