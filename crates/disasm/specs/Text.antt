@@ -2,7 +2,6 @@
 --
 -- | word        | what it is                                   |
 -- |-------------|----------------------------------------------|
--- | `by_width`  | one text for each width                      |
 -- | `mnemonic`  | the name of a kind                           |
 -- | `sign`      | a relation                                   |
 -- | `operand`   | a second operand: a register or a number     |
@@ -19,6 +18,7 @@ use Rattle.isa.specs.declared.kinds.Kind.{Kind}
 use Rattle.isa.specs.declared.kinds.Kind.TheVariants as kind
 use Rattle.isa.specs.declared.kinds.Kind.TheVariants.{Move, Neg, Add, Sub, Mpy, Div, Rem, Not, Or, Xor, And, Cbit, Sbit, Tbit, Chk, Nop, Lcomp, Dcomp, Trap, Test, Callr, Ret, Kcall, Lsl, Lsr, Asl, Asr, Dlsl, Dlsr, Csl, Seb, Seh, Store, Load, Laddr}
 use Rattle.isa.specs.Second.{picked}
+use Rattle.isa.specs.Width.{sized}
 use Rattle.isa.specs.declared.kinds.Second.{Second}
 use Rattle.isa.specs.declared.kinds.Second.TheVariants.{Register, Field}
 use Rattle.words.specs.declared.relations.Relation.{Relation}
@@ -28,12 +28,6 @@ use Rattle.isa.specs.declared.kinds.Shape.TheVariants.{Bare, Number, Entry, Pair
 use Rattle.isa.specs.declared.kinds.Side.TheVariants.{Code, Data}
 use Rattle.isa.specs.declared.kinds.Width.{Width}
 use Rattle.isa.specs.declared.kinds.Width.TheVariants.{Byte, Halfword, Word, Double}
-
-abbrev pub by_width : Width → List ℕ → List ℕ → List ℕ → List ℕ → List ℕ
-by_width Byte a b c d = a
-by_width Halfword a b c d = b
-by_width Word a b c d = c
-by_width Double a b c d = d
 
 abbrev pub mnemonic : Kind → List ℕ
 mnemonic (Move s) = picked s (codes "MOVE") (codes "MOVEI")
@@ -72,9 +66,9 @@ mnemonic (kind.Branch r s) = codes "BR"
 mnemonic kind.Jump = codes "BR"
 mnemonic kind.Call = codes "CALL"
 mnemonic kind.Loop = codes "LOOP"
-mnemonic (Store w i) = by_width w (codes "STOREB") (codes "STOREH") (codes "STORE") (codes "STORED")
-mnemonic (Load Data w i) = by_width w (codes "LOADB") (codes "LOADH") (codes "LOAD") (codes "LOADD")
-mnemonic (Load Code w i) = by_width w (codes "LOADBP") (codes "LOADHP") (codes "LOADP") (codes "LOADDP")
+mnemonic (Store w i) = sized w (codes "STOREB") (codes "STOREH") (codes "STORE") (codes "STORED")
+mnemonic (Load Data w i) = sized w (codes "LOADB") (codes "LOADH") (codes "LOAD") (codes "LOADD")
+mnemonic (Load Code w i) = sized w (codes "LOADBP") (codes "LOADHP") (codes "LOADP") (codes "LOADDP")
 mnemonic (Laddr Data i) = codes "LADDR"
 mnemonic (Laddr Code i) = codes "LADDRP"
 

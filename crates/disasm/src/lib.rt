@@ -4,27 +4,10 @@
 ghost use Rattle.std.specs.Prelude.{◌≡◌, ◌+◌, ◌*◌, Some};
 ghost use Rattle.std.specs.Fmt.{signed_decimal};
 ghost use Rattle.std.specs.Int.{cast_signed, w32};
-ghost use Rattle.disasm.specs.Text.{address, by_width, distance, mnemonic, operand, sign, text};
+ghost use Rattle.disasm.specs.Text.{address, distance, mnemonic, operand, sign, text};
 
 use isa::{Indexing, Instruction, Kind, Relation, Second, Shape, Side, Width};
 use std::fmt;
-
-fn by_width(
-    w: Width,
-    byte: &'static str,
-    halfword: &'static str,
-    word: &'static str,
-    double: &'static str,
-) -> &'static str
-    ensures { result.now ≡ by_width w byte.now halfword.now word.now double.now }
-{
-    match w {
-        Width::Byte => byte,
-        Width::Halfword => halfword,
-        Width::Word => word,
-        Width::Double => double,
-    }
-}
 
 // The mnemonic of a kind: I marks an immediate form, P an operand on the code side.
 fn name(kind: Kind) -> &'static str
@@ -67,9 +50,9 @@ fn name(kind: Kind) -> &'static str
         Kind::Jump => "BR",
         Kind::Call => "CALL",
         Kind::Loop => "LOOP",
-        Kind::Store(w, _) => by_width(w, "STOREB", "STOREH", "STORE", "STORED"),
-        Kind::Load(Side::Data, w, _) => by_width(w, "LOADB", "LOADH", "LOAD", "LOADD"),
-        Kind::Load(Side::Code, w, _) => by_width(w, "LOADBP", "LOADHP", "LOADP", "LOADDP"),
+        Kind::Store(w, _) => w.pick("STOREB", "STOREH", "STORE", "STORED"),
+        Kind::Load(Side::Data, w, _) => w.pick("LOADB", "LOADH", "LOAD", "LOADD"),
+        Kind::Load(Side::Code, w, _) => w.pick("LOADBP", "LOADHP", "LOADP", "LOADDP"),
         Kind::Laddr(Side::Data, _) => "LADDR",
         Kind::Laddr(Side::Code, _) => "LADDRP",
     }

@@ -1,4 +1,4 @@
-// What begins some bytes. The five functions for a record have one contract: the record and the bytes
+// What some bytes begin with. The five functions for a record have one contract: the record and the bytes
 // after it, or that no record of the section begins here. Each matches the named first bytes of its layout.
 ghost use Rattle.std.specs.Prelude.{◌≡◌, ◌<◌, ◌++◌, length, MatchOption};
 ghost use Rattle.image.specs.Format.{half};

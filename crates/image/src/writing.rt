@@ -15,7 +15,7 @@ use std::alloc::{AllocError, Global};
 trait Encode: Copy {
     ghost bytes: { Self → List ℕ };
 
-    // What is not too long for its length to be written.
+    // Whether its length can be written.
     ghost fits: { Self → Type 0 };
 
     // Adds the bytes to `out`.

@@ -5,3 +5,4 @@ pub mod Map
 pub mod Opcodes
 pub mod Second
 pub mod Sides
+pub mod Width

@@ -12,6 +12,7 @@ use Rattle.isa.specs.declared.kinds.Indexing.TheVariants.{Direct, Indexed}
 use Rattle.isa.specs.declared.kinds.Kind.{Kind}
 use Rattle.isa.specs.declared.kinds.Kind.TheVariants.{Move, Neg, Add, Sub, Mpy, Div, Rem, Not, Or, Xor, And, Cbit, Sbit, Tbit, Chk, Nop, Lcomp, Dcomp, Trap, Test, Callr, Ret, Kcall, Lsl, Lsr, Asl, Asr, Dlsl, Dlsr, Csl, Seb, Seh, Branch, Jump, Call, Loop, Store, Load, Laddr}
 use Rattle.isa.specs.Second.{picked}
+use Rattle.isa.specs.Width.{sized}
 use Rattle.words.specs.declared.relations.Relation.{Relation}
 use Rattle.words.specs.declared.relations.Relation.TheVariants.{Greater, Less, Equal, LessOrEqual, GreaterOrEqual, NotEqual}
 use Rattle.isa.specs.declared.kinds.Second.TheVariants.{Register, Field}
@@ -32,10 +33,7 @@ beside Direct = 0
 beside Indexed = 1
 
 abbrev pub place : Width → Indexing → ℕ
-place Byte i = beside i
-place Halfword i = 2 + beside i
-place Word i = 6 + beside i
-place Double i = 8 + beside i
+place w i = sized w 0 2 6 8 + beside i
 
 abbrev pub opcode_of : Kind → Option ℕ
 opcode_of (Move s) = Some (0x01 + picked s 0 16)

@@ -1,8 +1,8 @@
 -- Second: what the Ry field gives as second operand.
 --
--- | word     | what it is                                                |
--- |----------|-----------------------------------------------------------|
--- | `picked` | one of two things: the first for a register, else a field |
+-- | word     | what it is                                                           |
+-- |----------|----------------------------------------------------------------------|
+-- | `picked` | one of two things: the first for a register, the second for a field  |
 use Rattle.isa.specs.declared.kinds.Second.{Second}
 use Rattle.isa.specs.declared.kinds.Second.TheVariants.{Register, Field}
 

@@ -9,7 +9,7 @@ use super::table::lookup;
 use words::extend;
 
 // The displacement that a short format has in two bytes, with its sign.
-pub fn short_displacement(a: u8, b: u8) -> u32
+pub(crate) fn short_displacement(a: u8, b: u8) -> u32
     ensures { result ≡ extended 16 (a * 256 + b) }
 {
     extend::<i16>(u32::from(u16::from_be_bytes([a, b])))

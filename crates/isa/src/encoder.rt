@@ -25,13 +25,7 @@ fn relation_column(r: Relation) -> u8
 fn width_column(w: Width, i: Indexing) -> u8
     ensures { result ≡ place w i }
 {
-    let direct = match w {
-        Width::Byte => 0,
-        Width::Halfword => 2,
-        Width::Word => 6,
-        Width::Double => 8,
-    };
-    direct + i as u8
+    w.pick(0, 2, 6, 8) + i as u8
 }
 
 // The opcode of a kind, in its short form where it has two; none where the map has no such instruction.

@@ -1,5 +1,6 @@
 // What an opcode names: kinds of instruction, and what their fields stand for.
-// A relation says how Rx is compared with the second operand, both signed.
+
+// How Rx is compared with the second operand, by the whole numbers that they stand for.
 pub use words::Relation;
 
 // The segment that an address lies in.
@@ -38,6 +39,23 @@ pub enum Width {
     Halfword,
     Word,
     Double,
+}
+
+impl Width {
+    ghost use Rattle.std.specs.Prelude.{◌≡◌};
+    ghost use Rattle.isa.specs.Width.{sized};
+
+    // One of four values, by the width.
+    pub fn pick<T: Copy>(self, byte: T, halfword: T, word: T, double: T) -> T
+        ensures { result ≡ sized self byte halfword word double }
+    {
+        match self {
+            Width::Byte => byte,
+            Width::Halfword => halfword,
+            Width::Word => word,
+            Width::Double => double,
+        }
+    }
 }
 
 // Whether Ry is added to the address of an operand.

@@ -5,7 +5,7 @@ ghost use Rattle.isa.specs.Sides.{IsSideOf, side_number, side_text};
 use super::kinds::Side;
 use std::fmt;
 
-// A number that stands for no side.
+// The error for a number of no side.
 #[derive(Clone, Copy, PartialEq, Eq, Debug)]
 pub struct NoSide;
 

@@ -1,13 +1,13 @@
 -- Parts: how the bytes of a code fill fall into instructions and bytes that are none.
 --
--- | word         | what it is                                                                                  |
--- |--------------|---------------------------------------------------------------------------------------------|
--- | `Right`      | that bytes at an address are what their content says, with some bytes after them            |
--- | `content_of` | the content of bytes at an even address, by their decoding                                  |
--- | `Begins`     | that the first part of some bytes has a number of bytes and a content                       |
--- | `Leads`      | that a part is the first of some bytes at an address, and which bytes follow it             |
--- | `Covers`     | that parts, one after another, are all of some bytes                                        |
--- | `GivesPart`  | that the first part of bytes at an address is given, or none of none, and where the rest is |
+-- | word         | what it is                                                                                                      |
+-- |--------------|-----------------------------------------------------------------------------------------------------------------|
+-- | `Right`      | that bytes at an address are what their content says, with some bytes after them                                |
+-- | `content_of` | the content of bytes at an even address, by their decoding                                                      |
+-- | `Begins`     | that the first part of some bytes has a number of bytes and a content                                           |
+-- | `Leads`      | that a part is the first of some bytes at an address, and which bytes follow it                                 |
+-- | `Covers`     | that parts, one after another, are all of some bytes                                                            |
+-- | `GivesPart`  | that the first part of bytes at an address is given, or nothing where there are no bytes, and where the rest is |
 use Rattle.std.specs.Prelude.{◌≡◌, ℕ, ◌+◌, ◌%◌, ◌<◌, ◌≤◌, max, List, [], ◌∷◌, ◌++◌, length, take, drop, Ok, Err, Option, Result, MatchOption, slice_index}
 use Rattle.isa.specs.Decoding.{decoded}
 use Rattle.isa.specs.Map.{length_at}

@@ -5,7 +5,7 @@
 -- | `outside` | whether a whole number lies outside the signed words, -2^31 to 2^31 - 1          |
 -- | `kept`    | the low 32 bits of an exact result, and whether it lies outside                  |
 -- | `Told`    | overflow is told exactly where the word, read as signed, is not the exact result |
--- | `Keeps`   | that is kept of an exact result, and overflow is told of it so                   |
+-- | `Keeps`   | an answer is what is kept of an exact result, and tells its overflow             |
 use Rattle.std.specs.Prelude.{◌≡◌, ◌-◌, ◌^◌, Bool, true, false, ◌||◌, ℤ, pos, neg_ℤ, ◌≢◌, int_lt}
 use Rattle.words.specs.Wholes.{low, signed}
 use Rattle.words.specs.declared.arithmetic.Kept.{Kept}
