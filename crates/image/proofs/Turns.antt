@@ -46,6 +46,10 @@ module _ {V E : Type 0} (items : V → List Placed) where
   kept_on (Err e) (Ok v) (Ok w) xs ys zs p q f = absurd p
   kept_on (Ok u) (Ok v) (Ok w) xs ys zs p q f = q ∙ ap (λ l. l ++ ys) p ∙ append_assoc (items u) xs ys ∙ ap (λ l. items u ++ l) f
 
+  kept_begun : (r : Result V E) → MatchResult r (λ v. items v ≡ []) (λ e. ⊥) → IfOk r (λ v. items v ≡ [])
+  kept_begun (Ok v) h = h
+  kept_begun (Err e) h = absurd h
+
   listed_on : (old new : Result V E) (a xs b : List Placed) → IfOk old (λ v. items v ≡ a) → Kept old new xs → a ++ xs ≡ b → IfOk new (λ w. items w ≡ b)
   listed_on old (Err e) a xs b p q f = tt
   listed_on (Err e) (Ok w) a xs b p q f = absurd q
@@ -116,7 +120,7 @@ pub record Walked (ss : List Section) (bs : List ℕ) (now : Reader) : Type 0 wh
   pub all : Accepts (Blocks ss) bs (flat_map block taken) now.rest.now
 
 pub walked_none : (bs : List ℕ) (now : Reader) → Began bs now → Walked [] bs now
-walked_none bs now h = record { taken = []; own = tt; size = h.size; listed = h.none; all = subst (Accepts (Blocks []) bs []) (sym h.rest) (blocks_none bs) }
+walked_none bs now h = record { taken = []; own = tt; size = h.size; listed = kept_begun vec_items now.records h.none; all = subst (Accepts (Blocks []) bs []) (sym h.rest) (blocks_none bs) }
 
 module _ {ss : List Section} {bs : List ℕ} {now : Reader} (h : Walked ss bs now) where
   reach : offset_of now ≡ length (flat (flat_map block h.taken))
@@ -155,10 +159,10 @@ module _ {ss : List Section} {bs : List ℕ} {now : Reader} (part : Walked ss bs
       let r = reads bs whole.taken now.rest.now whole.own whole.all (nil_from_length now.rest.now e) in
       (within, r.records, r.ordered, r.imaged)
 
-  pub walked_rest : (o : ℕ) → o ≡ offset_of now → 0 < length now.rest.now → Refuses bs o
-  walked_rest o e more =
-      let here : length bs - length now.rest.now ≡ o = omega (arith, whole.size) in
-      subst (Refuses bs) here (refuses_rest bs whole.taken now.rest.now whole.own whole.all more)
+  pub walked_rest : (e : ReadError) → e ≡ Unreadable (offset_of now) → 0 < length now.rest.now → length bs ≤ 16384 → Fails bs e
+  walked_rest e is more within =
+      let here : length bs - length now.rest.now ≡ offset_of now = omega (arith, whole.size) in
+      subst (Fails bs) (sym is) (λ over. absurd (omega arith), λ _. subst (Refuses bs) here (refuses_rest bs whole.taken now.rest.now whole.own whole.all more))
 
 -- an error that is handed on
 pub handed_on : {V E : Type 0} (P : V → Type 0) (Q : E → Type 0) (r : Result V E) (e : E) → IsErrAnd r (λ x. x ≡ e) → Q e → MatchResult r P Q

@@ -77,7 +77,7 @@ Stored old new xs = IfOk new.records (λ w. MatchResult old.records (λ v. vec_i
 pub record Began (bs : List ℕ) (r : Reader) : Type 0 where
   pub size : r.size ≡ length bs
   pub rest : r.rest.now ≡ bs
-  pub none : IfOk r.records (λ v. vec_items v ≡ [])
+  pub none : MatchResult r.records (λ v. vec_items v ≡ []) (λ e. ⊥)
 
 abbrev pub Took : (List Record → Type 0) → (List Record → List (List ℕ)) → ℕ → Reader → Reader → Result (Unit {0}) ReadError → Type 0
 Took P body lead old new (Ok _) =

@@ -26,11 +26,8 @@ abbrev pub Counted : List Record → Type 0
 Counted rs = All (λ s. length (among s rs) ≤ 65535) order
 
 abbrev pub Short : Record → Type 0
-Short (Admit a) = Unit {0}
-Short (Grant g) = Unit {0}
 Short (Fill f) = length f.bytes.now ≤ 65535
-Short (Put u) = Unit {0}
-Short (Run e) = Unit {0}
+Short _ = Unit {0}
 
 abbrev pub total : List Record → ℕ
 total [] = 0

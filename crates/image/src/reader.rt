@@ -19,6 +19,7 @@ pub struct Reader<'a> {
 impl<'a> Reader<'a> {
     ghost use Rattle.std.specs.Prelude.{◌≡◌, [], ◌∷◌, map};
     ghost use Rattle.image.specs.Format.{written, block};
+    ghost use Rattle.image.specs.declared.errors.ReadError.{ReadError};
     ghost use Rattle.image.specs.Reading.{Belong, Began, Stored, Took, offset_of};
 
     pub fn new(heap: Global, bytes: &'a [u8]) -> Reader<'a>
@@ -32,10 +33,17 @@ impl<'a> Reader<'a> {
     }
 
     // Where the bytes that are left begin.
-    pub fn offset(&self) -> usize
+    fn offset(&self) -> usize
         ensures { result ≡ offset_of self.now }
     {
         self.size - self.rest.len()
+    }
+
+    // The refusal of an image that cannot be read on from here.
+    pub fn unreadable(&self) -> ReadError
+        ensures { result ≡ ReadError.Unreadable (offset_of self.now) }
+    {
+        ReadError::Unreadable(self.offset())
     }
 
     // Keeps a record that begins here and goes on after it.
@@ -63,7 +71,7 @@ impl<'a> Reader<'a> {
     {
         for _ in 0..count {
             let Some((record, after)) = take::record(section, self.rest) else {
-                return Err(ReadError::Unreadable(self.offset()));
+                return Err(self.unreadable());
             };
             self.keep(record, after);
         }
@@ -75,7 +83,7 @@ impl<'a> Reader<'a> {
         ensures { Took (Belong section) block 2 self.old self.new result }
     {
         let Some((count, after)) = take::count(self.rest) else {
-            return Err(ReadError::Unreadable(self.offset()));
+            return Err(self.unreadable());
         };
         self.rest = after;
         self.take_records(section, count)

@@ -9,7 +9,7 @@ use std::alloc::Global;
 
 // The records of an image, each with its offset. An image that is not well formed is refused
 // whole, and no record of it is handed out; want of memory is told only of an image that is well formed.
-pub fn read<'a>(heap: Global, bytes: &'a [u8]) -> Result<Vec<Placed<'a>>, ReadError>
+pub fn read(heap: Global, bytes: &[u8]) -> Result<Vec<Placed<'_>>, ReadError>
     ensures { MatchResult result (λ v. (length bytes.now ≤ 16384) × Reads bytes.now v.items) (Fails bytes.now) }
 {
     if bytes.len() > LIMIT {
@@ -20,7 +20,7 @@ pub fn read<'a>(heap: Global, bytes: &'a [u8]) -> Result<Vec<Placed<'a>>, ReadEr
         reader.take_section(section)?;
     }
     if !reader.rest.is_empty() {
-        return Err(ReadError::Unreadable(reader.offset()));
+        return Err(reader.unreadable());
     }
     Ok(reader.records?)
 }

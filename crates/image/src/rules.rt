@@ -26,11 +26,11 @@ pub fn count(section: Section, records: &[Record]) -> usize
         .count()
 }
 
-// Whether none of some sections has too many records.
-fn counts_fit(sections: &[Section], records: &[Record]) -> bool
-    ensures { IsTrue result ↔ All (λ s. length (among s records.now) ≤ 65535) sections.now }
+// Whether no section has too many records.
+fn counts_fit(records: &[Record]) -> bool
+    ensures { IsTrue result ↔ Counted records.now }
 {
-    sections
+    SECTIONS
         .iter()
         .all(|section| count(*section, records) <= LARGEST)
 }
@@ -58,7 +58,7 @@ pub fn check(records: &[Record]) -> Result<(), WriteError>
     if !in_order(records) {
         return Err(WriteError::OutOfOrder);
     }
-    if !counts_fit(&SECTIONS, records) {
+    if !counts_fit(records) {
         return Err(WriteError::TooManyRecords);
     }
     if !fills_fit(records) {

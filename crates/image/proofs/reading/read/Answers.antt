@@ -24,10 +24,9 @@ pub loop-section-preserved : goal.loop-section-preserved
 loop-section-preserved c = walked_more c.loop-section.invariant _ _ _ (take_more order _ Admissions c.loop-section-test.true) c.in_ok-take_section.ensures
 
 pub returns-then-not-is_empty : goal.returns-then-not-is_empty
-returns-then-not-is_empty c = (
-  λ over. absurd (omega (arith, c.if-bytes-gt-LIMIT.false)),
-  λ _. walked_rest c.loop-section.invariant (take_all _ order c.loop-section-test.false) _ c.offset.ensures (omega (arith, false-eqb _ 0 c.if-not-is_empty.ensures)),
-)
+returns-then-not-is_empty c =
+    walked_rest c.loop-section.invariant (take_all _ order c.loop-section-test.false) _ c.unreadable.ensures (omega (arith, false-eqb _ 0 c.if-not-is_empty.ensures))
+    (omega (arith, c.if-bytes-gt-LIMIT.false))
 
 pub returns-in_err-reader : goal.returns-in_err-reader
 returns-in_err-reader c =

@@ -1,5 +1,5 @@
 use Rattle.std.proofs.Common.{arith}
-use Rattle.image.proofs.Kept.{image-size}
+use Rattle.image.proofs.Written.{image-size}
 use Rattle.image.proofs.rules.check.Goals as goal
 
 pub returns-then-size-gt-LIMIT : goal.returns-then-size-gt-LIMIT

@@ -1,7 +1,7 @@
 use Rattle.std.proofs.Common.{◌≡◌, ◌+◌, ◌-◌, ◌^◌, min, refl, subst, arith, rules}
 use Rattle.std.proofs.lemmas.Fn.{fold_over, slice_gives, fronts}
 use Rattle.image.specs.Writing.{total}
-use Rattle.image.proofs.Kept.{total-push}
+use Rattle.image.proofs.Written.{total-push}
 use Rattle.image.proofs.rules.size.Goals as goal
 
 pub returns : goal.returns

@@ -3,7 +3,7 @@ use Rattle.std.specs.List.{flat_map}
 use Rattle.std.proofs.lemmas.List.{take_all, take_more}
 use Rattle.image.specs.declared.records.Section.TheVariants.{Admissions}
 use Rattle.image.specs.Format.{order, among, flat, block}
-use Rattle.image.proofs.Kept.{written_section, writes}
+use Rattle.image.proofs.Written.{written_section, writes}
 use Rattle.image.proofs.writing.write.Goals as goal
 
 pub loop-section-preserved : goal.loop-section-preserved

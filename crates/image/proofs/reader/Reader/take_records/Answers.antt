@@ -1,5 +1,4 @@
 use Rattle.std.proofs.Common.{◌++◌, sym, ap, ◌∙◌, arith}
-use Rattle.image.specs.declared.errors.ReadError.TheVariants.{Unreadable}
 use Rattle.image.specs.Format.{written}
 use Rattle.image.proofs.Turns.{sofar_none, sofar_more, sofar_stuck, sofar_all}
 use Rattle.image.proofs.reader.Reader.take_records.Goals as goal
@@ -8,7 +7,7 @@ pub loop-init : goal.loop-init
 loop-init c = sofar_none _ _
 
 pub returns-in_default : goal.returns-in_default
-returns-in_default c = sofar_stuck c.loop.invariant _ _ c.loop-test.true c.in_default.ensures (ap (λ o. Unreadable o) c.offset.ensures)
+returns-in_default c = sofar_stuck c.loop.invariant _ _ c.loop-test.true c.in_default.ensures c.unreadable.ensures
 
 pub loop-preserved : goal.loop-preserved
 loop-preserved c =

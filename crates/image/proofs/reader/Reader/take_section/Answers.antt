@@ -1,4 +1,4 @@
-use Rattle.std.proofs.Common.{◌≡◌, ◌+◌, length, refl, ap, arith}
+use Rattle.std.proofs.Common.{◌≡◌, ◌+◌, length, refl, ap, ◌∙◌, arith}
 use Rattle.image.specs.declared.errors.ReadError.TheVariants.{Unreadable}
 use Rattle.image.specs.declared.reader.Reader.{Reader}
 use Rattle.image.specs.Reading.{offset_of}
@@ -8,8 +8,8 @@ use Rattle.image.proofs.reader.Reader.take_section.Goals as goal
 
 pub returns-in_default : goal.returns-in_default
 returns-in_default c =
-    let here : c.offset.result ≡ offset_of c.args.self.now + 0 = omega (arith, c.offset.ensures) in
-    (0, ap (λ o. Unreadable o) here, block-short c.args.section c.in_default.ensures)
+    let here : offset_of c.args.self.now ≡ offset_of c.args.self.now + 0 = omega arith in
+    (0, c.unreadable.ensures ∙ ap (λ o. Unreadable o) here, block-short c.args.section c.in_default.ensures)
 
 pub returns : goal.returns
 returns c =
