@@ -26,8 +26,6 @@ use Rattle.words.specs.declared.relations.Relation.TheVariants.{Greater, Less, E
 use Rattle.isa.specs.declared.kinds.Shape.{Shape}
 use Rattle.isa.specs.declared.kinds.Shape.TheVariants.{Bare, Number, Entry, Pair, Compare, Branch, Jump, Call, Loop, Memory}
 use Rattle.isa.specs.declared.kinds.Side.TheVariants.{Code, Data}
-use Rattle.isa.specs.declared.kinds.Width.{Width}
-use Rattle.isa.specs.declared.kinds.Width.TheVariants.{Byte, Halfword, Word, Double}
 
 abbrev pub mnemonic : Kind → List ℕ
 mnemonic (Move s) = picked s (codes "MOVE") (codes "MOVEI")

@@ -134,7 +134,7 @@ impl fmt::Display for Sign {
 }
 
 // An instruction to be shown.
-#[derive(Clone, Copy)]
+#[derive(Clone, Copy, PartialEq, Eq, Debug)]
 pub struct Text(pub Instruction);
 
 impl fmt::Display for Text {

@@ -14,7 +14,7 @@ use Rattle.image.specs.declared.errors.WriteError.{WriteError}
 use Rattle.image.specs.declared.errors.WriteError.TheVariants.{OutOfOrder, TooManyRecords, FillTooLong, ImageTooLong, Memory}
 use Rattle.image.specs.declared.records.Placed.{Placed}
 use Rattle.image.specs.declared.records.Record.{Record}
-use Rattle.image.specs.declared.records.Record.TheVariants.{Admit, Grant, Fill, Put, Run}
+use Rattle.image.specs.declared.records.Record.TheVariants.{Fill}
 use Rattle.image.specs.Format.{written, order, among, Ordered, image, bare}
 use Rattle.image.specs.Reading.{Reads, Fails}
 

@@ -18,7 +18,6 @@ use Rattle.words.specs.declared.relations.Relation.TheVariants.{Greater, Less, E
 use Rattle.isa.specs.declared.kinds.Second.TheVariants.{Register, Field}
 use Rattle.isa.specs.declared.kinds.Side.TheVariants.{Code, Data}
 use Rattle.isa.specs.declared.kinds.Width.{Width}
-use Rattle.isa.specs.declared.kinds.Width.TheVariants.{Byte, Halfword, Word, Double}
 
 abbrev pub column : Relation → ℕ
 column Greater = 0

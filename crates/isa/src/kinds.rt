@@ -61,8 +61,8 @@ impl Width {
 // Whether Ry is added to the address of an operand.
 #[derive(Clone, Copy, PartialEq, Eq, Debug)]
 pub enum Indexing {
-    Direct,
-    Indexed,
+    Direct = 0,
+    Indexed = 1,
 }
 
 // The carried instructions, by their mnemonics. A `Second` tells the register form from the immediate one.

@@ -1,5 +1,7 @@
 // Start images: each kind of record, every cut, the limits, and what is not written.
-use image::{Admission, Fill, Grant, LIMIT, Put, ReadError, Record, Run, WriteError, read, write};
+use image::{
+    Admission, Fill, Grant, LIMIT, Placed, Put, ReadError, Record, Run, WriteError, read, write,
+};
 use isa::Side;
 use std::test::Fail;
 
@@ -14,43 +16,54 @@ const SAMPLE: &[u8; 50] = b"\
 // Where its counts and records begin.
 const STARTS: [usize; 10] = [0, 2, 8, 10, 20, 22, 32, 34, 42, 44];
 
-// Its records.
-const RECORDS: [Record; 5] = [
-    Record::Admit(Admission {
-        p: 3,
-        first: 2,
-        count: 260,
-    }),
-    Record::Grant(Grant {
-        p: 3,
-        side: Side::Data,
-        page: 999_999,
-        k: 9,
-    }),
-    Record::Fill(Fill {
-        p: 3,
-        k: 9,
-        offset: 4_094,
-        bytes: &[171, 205],
-    }),
-    Record::Put(Put {
-        p: 3,
-        r: 16,
-        value: 65_538,
-    }),
-    Record::Run(Run { p: 3, n: 1_000_000 }),
+// Its records, and where they begin.
+const PLACED: [Placed; 5] = [
+    Placed {
+        offset: 2,
+        record: Record::Admit(Admission {
+            p: 3,
+            first: 2,
+            count: 260,
+        }),
+    },
+    Placed {
+        offset: 10,
+        record: Record::Grant(Grant {
+            p: 3,
+            side: Side::Data,
+            page: 999_999,
+            k: 9,
+        }),
+    },
+    Placed {
+        offset: 22,
+        record: Record::Fill(Fill {
+            p: 3,
+            k: 9,
+            offset: 4_094,
+            bytes: &[171, 205],
+        }),
+    },
+    Placed {
+        offset: 34,
+        record: Record::Put(Put {
+            p: 3,
+            r: 16,
+            value: 65_538,
+        }),
+    },
+    Placed {
+        offset: 44,
+        record: Record::Run(Run { p: 3, n: 1_000_000 }),
+    },
 ];
-
-// Where they begin.
-const OFFSETS: [usize; 5] = [2, 10, 22, 34, 44];
 
 #[test]
 fn reads_each_kind(rt: HostRuntime) -> Result<(), Fail> {
     let all = read(rt.alloc(), SAMPLE)?;
     assert!(rt; all.len() == 5);
-    for (placed, (offset, record)) in all.iter().zip(OFFSETS.iter().zip(RECORDS.iter())) {
-        assert!(rt; placed.offset == *offset);
-        assert!(rt; placed.record == *record);
+    for (placed, expected) in all.iter().zip(PLACED.iter()) {
+        assert!(rt; placed == expected);
     }
     Ok(())
 }
@@ -58,8 +71,8 @@ fn reads_each_kind(rt: HostRuntime) -> Result<(), Fail> {
 #[test]
 fn refuses_each_cut(rt: HostRuntime) {
     let bytes = *SAMPLE;
-    for n in 0..50usize {
-        let cut = STARTS.into_iter().filter(|start| *start <= n).last();
+    for n in 0..bytes.len() {
+        let cut = STARTS.into_iter().rfind(|start| *start <= n);
         assert_eq!(rt;
             read(rt.alloc(), &bytes[0..n]).err(),
             cut.map(ReadError::Unreadable)
@@ -88,7 +101,8 @@ fn refuses_a_bad_side_and_a_byte_left_over(rt: HostRuntime) -> Result<(), Fail> 
 
 #[test]
 fn reads_what_was_written(rt: HostRuntime) -> Result<(), Fail> {
-    let bytes = write(rt.alloc(), &RECORDS)?;
+    let records = PLACED.map(|placed| placed.record);
+    let bytes = write(rt.alloc(), &records)?;
     assert!(rt; bytes.as_slice() == SAMPLE.as_slice());
     Ok(())
 }

@@ -1,13 +1,13 @@
 -- Products and quotients of signed words: they fit 64 bits, and the quotient toward zero is the only one.
-use Rattle.std.proofs.Common.{◌≡◌, ℕ, zero, suc, ◌+◌, ◌*◌, ◌/◌, ◌^◌, ◌<◌, ◌≤◌, ℤ, pos, negsuc, ◌*ℤ◌, neg_ℤ, nat_abs, ◌≤ℤ◌, ◌<ℤ◌, Some, sym, refl, ap, ◌∙◌, mod-lt, mul-le-mul_left, mul-zero, div-le_self, arith, w64, SFits, of_z, ne_eqb}
+use Rattle.std.proofs.Common.{◌≡◌, if◌then◌else◌, ◌==◌, ℕ, zero, suc, ◌+◌, ◌*◌, ◌/◌, ◌^◌, ◌<◌, ◌≤◌, ℤ, pos, negsuc, ◌*ℤ◌, neg_ℤ, nat_abs, ◌≤ℤ◌, ◌<ℤ◌, Some, None, sym, refl, ap, ◌∙◌, mod-lt, mul-le-mul_left, mul-zero, div-le_self, arith, w64, SFits, of_z, ne_eqb}
 use native.Mathlib.Nat.{div-add-mod}
 use borrow.Author.Differences.{down, ints, neg_is, up}
 use lib.Signed.{mag_rem, quot_z, rem_z}
 use Rattle.std.proofs.lemmas.Nat.{mul-le}
 use Rattle.std.proofs.lemmas.Int.{by_lt_z, to_z-of_z}
 use Rattle.std.specs.Int.{CanDivide}
-use Rattle.words.specs.Division.{Divided, Divides, Left, Truncates, quotient_of, remainder_of}
-use Rattle.words.specs.Kept.{Told, kept}
+use Rattle.words.specs.Division.{Divided, Divides, Left, Truncates, remainder_of}
+use Rattle.words.specs.Kept.{Told}
 use Rattle.words.specs.declared.arithmetic.Kept.{Kept}
 use Rattle.words.proofs.Signs.{low_signed, mag_within, signed_low, signed-within, within_mag}
 use Rattle.words.specs.Wholes.{low, signed, Within}
@@ -122,20 +122,18 @@ pub divisor_counts : (b : ℕ) (d : ℤ) → d ≡ signed 32 b → 0 < of_z w64 
 unfolding signed
 divisor_counts b d e l z = let y : d ≡ pos 0 = e ∙ ap (signed 32) z in absurd (omega (arith, ints, ap (of_z w64) y))
 
+-- what stands for a divisor other than 0
+pub answered : {X : Type 0} (b : ℕ) (x y : X) → (b ≡ 0 → ⊥) → x ≡ y → Some x ≡ (if b == 0 then None else Some y)
+answered b x y nb h = let e = ne_eqb b 0 nb in rw e (ap Some h)
+
 module _ (a b : ℕ) (wa : Within 32 (signed 32 a)) (lb : b < 2 ^ 32) (nb : b ≡ 0 → ⊥) where
-  pub has_quotient : (k : Kept) → k ≡ kept (quot_z (signed 32 a) (signed 32 b)) → Some k ≡ quotient_of a b
-  has_quotient k h = let e = ne_eqb b 0 nb in rw e (ap Some h)
-
-  pub has_remainder : (r : ℕ) → r ≡ low 32 (rem_z (signed 32 a) (signed 32 b)) → Some r ≡ remainder_of a b
-  has_remainder r h = let e = ne_eqb b 0 nb in rw e (ap Some h)
-
   pub divided : (k : Kept) → Told (quot_z (signed 32 a) (signed 32 b)) k → Divided a b k
   divided k h = record {
     truncates = truncates (signed 32 a) (signed 32 b) (not_zero b lb nb);
     told = h;
     restores = λ r e o.
         let q = h.0 o in
-        let s = has_remainder (low 32 (rem_z (signed 32 a) (signed 32 b))) refl in
+        let s : Some (low 32 (rem_z (signed 32 a) (signed 32 b))) ≡ remainder_of a b = answered b _ _ nb refl in
         let t : r ≡ low 32 (rem_z (signed 32 a) (signed 32 b)) = cc in
         let u : signed 32 r ≡ rem_z (signed 32 a) (signed 32 b) = ap (signed 32) t ∙ remainder_exact _ _ wa in
         let d = (divides (signed 32 a) (signed 32 b) (not_zero b lb nb)).whole in

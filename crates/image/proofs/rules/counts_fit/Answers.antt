@@ -1,4 +1,4 @@
-use Rattle.std.proofs.Common.{◌≡◌, ℕ, ◌<◌, ◌≤◌, All, Bool, true, false, IsTrue, List, length, MatchBool, arith, rules, tests}
+use Rattle.std.proofs.Common.{ℕ, ◌<◌, ◌≤◌, All, Bool, true, false, IsTrue, List, length, MatchBool, arith, rules, tests}
 use Rattle.std.specs.List.{HoldsAt, AllWithin}
 use Rattle.std.proofs.lemmas.Bool.{false≢true}
 use Rattle.std.proofs.lemmas.Iterator.{cases_from_all, YieldsList-from_slice}

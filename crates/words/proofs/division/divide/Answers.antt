@@ -2,7 +2,7 @@ use borrow.Author.Differences.{ints}
 use Rattle.std.proofs.Common.{◌≡◌, ◌∙◌, ap, subst, arith, w64, to_z, of_z, to_z-of_z, rules}
 use lib.Signed.{quot_z}
 use Rattle.words.proofs.Exact.{as_told}
-use Rattle.words.proofs.Quotients.{divided, divisor_counts, has_quotient, quotient_fits}
+use Rattle.words.proofs.Quotients.{answered, divided, divisor_counts, quotient_fits}
 use Rattle.words.specs.Kept.{kept}
 use Rattle.words.specs.Wholes.{signed, Within}
 use Rattle.words.proofs.division.divide.Goals as goal
@@ -17,6 +17,6 @@ returns c =
     let q : c.in_ok-quotient.quotient ≡ quot_z (signed 32 c.args.a) (signed 32 c.args.b) = cc given.1 in
     let e = ap (λ z. to_z w64 (of_z w64 z)) q ∙ to_z-of_z (quotient_fits _ _ w) in
     record {
-      value = has_quotient c.args.a c.args.b w (search rules) n _ (c.keep.ensures.value ∙ ap kept e);
+      value = answered c.args.b _ _ n (c.keep.ensures.value ∙ ap kept e);
       laws = divided c.args.a c.args.b w (search rules) n _ (as_told c.keep.result c.keep.ensures.told e);
     }

@@ -1,7 +1,7 @@
 use borrow.Author.Differences.{ints}
 use Rattle.std.proofs.Common.{◌≡◌, ◌∙◌, ap, subst, arith, w64, to_z, of_z, to_z-of_z, rules}
 use lib.Signed.{rem_z}
-use Rattle.words.proofs.Quotients.{divisor_counts, has_remainder, left, remainder_fits}
+use Rattle.words.proofs.Quotients.{answered, divisor_counts, left, remainder_fits}
 use Rattle.words.specs.Wholes.{low, signed, Within}
 use Rattle.words.proofs.division.remainder.Goals as goal
 
@@ -15,6 +15,6 @@ returns c =
     let q : c.in_ok-rest.rest ≡ rem_z (signed 32 c.args.a) (signed 32 c.args.b) = cc given.1 in
     let e = ap (λ z. to_z w64 (of_z w64 z)) q ∙ to_z-of_z (remainder_fits _ _ w) in
     record {
-      value = has_remainder c.args.a c.args.b w (search rules) n _ (c.word.ensures.value ∙ ap (low 32) e);
+      value = answered c.args.b _ _ n (c.word.ensures.value ∙ ap (low 32) e);
       laws = left c.args.a c.args.b w (search rules) n _ (c.word.ensures.value ∙ ap (low 32) e);
     }
