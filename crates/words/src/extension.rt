@@ -10,7 +10,7 @@ pub trait Narrow {
     ghost bits: { ℕ };
 
     // The value of the last bits of a word.
-    fn last(a: u32) -> i64
+    fn low_value(a: u32) -> i64
         ensures { result ≡ signed bits (a % 2 ^ bits) };
 
     ghost positive: { 0 < bits };
@@ -19,32 +19,32 @@ pub trait Narrow {
 }
 
 impl Narrow for i8 {
-    ghost use Rattle.std.proofs.Common.{rules};
+    ghost use Rattle.std.proofs.Common.{lit≤};
 
     ghost bits = { 8 };
 
-    ghost positive = { Prim.search rules };
+    ghost positive = { lit≤ tt };
 
-    ghost narrower = { Prim.search rules };
+    ghost narrower = { lit≤ tt };
 
     #[tactic(auto, using(crate::proofs::Signs::signed_8))]
-    fn last(a: u32) -> i64 {
+    fn low_value(a: u32) -> i64 {
         let byte = (a % 0x100) as u8;
         i64::from(byte.cast_signed())
     }
 }
 
 impl Narrow for i16 {
-    ghost use Rattle.std.proofs.Common.{rules};
+    ghost use Rattle.std.proofs.Common.{lit≤};
 
     ghost bits = { 16 };
 
-    ghost positive = { Prim.search rules };
+    ghost positive = { lit≤ tt };
 
-    ghost narrower = { Prim.search rules };
+    ghost narrower = { lit≤ tt };
 
     #[tactic(auto, using(crate::proofs::Signs::signed_16))]
-    fn last(a: u32) -> i64 {
+    fn low_value(a: u32) -> i64 {
         let half = (a % 0x1_0000) as u16;
         i64::from(half.cast_signed())
     }
@@ -54,5 +54,5 @@ impl Narrow for i16 {
 pub fn extend<T: Narrow>(a: u32) -> u32
     ensures { Extends T.bits a result }
 {
-    word(T::last(a))
+    word(T::low_value(a))
 }

@@ -7,6 +7,6 @@ use Rattle.words.proofs.extension.extend.Goals as goal
 pub returns : goal.returns
 unfolding extended
 returns g c =
-    let f : SFits w64 c.last.result = record { sfits = c.last.type_inv } in
+    let f : SFits w64 c.low_value.result = record { sfits = c.low_value.type_inv } in
     extends g.T.Narrow.bits c.args.a c.word.result g.met.T.Narrow.positive g.met.T.Narrow.narrower
-    (c.word.ensures.value ∙ ap (low 32) (to_z-of_z f ∙ c.last.ensures))
+    (c.word.ensures.value ∙ ap (low 32) (to_z-of_z f ∙ c.low_value.ensures))
