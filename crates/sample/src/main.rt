@@ -82,7 +82,12 @@ fn fill(k: u16, offset: u16, bytes: &[u8]) -> Record<'_> {
 }
 
 // The image: a code page, a data page with the shrinkage and the fired dimensions, and one run.
-fn image(heap: Global, code: &[u8], shrinkage: &[u8], fired: &[u8]) -> Option<Vec<u8>> {
+fn image<'a>(
+    heap: Global,
+    code: &'a [u8],
+    shrinkage: &'a [u8],
+    fired: &'a [u8],
+) -> Option<Vec<u8>> {
     let both = Admission {
         p: 0,
         first: 0,
