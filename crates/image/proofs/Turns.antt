@@ -165,6 +165,12 @@ module _ {ss : List Section} {bs : List ℕ} {now : Reader} (part : Walked ss bs
       subst (Fails bs) (sym is) (λ over. absurd (omega arith), λ _. subst (Refuses bs) here (refuses_rest bs whole.taken now.rest.now whole.own whole.all more))
 
 -- an error that is handed on
-pub handed_on : {V E : Type 0} (P : V → Type 0) (Q : E → Type 0) (r : Result V E) (e : E) → IsErrAnd r (λ x. x ≡ e) → Q e → MatchResult r P Q
-handed_on P Q (Ok v) e h q = absurd h
-handed_on P Q (Err x) e h q = subst Q (sym h) q
+pub handed_on : {V E : Type 0} (W : Result V E → Type 0) (r : Result V E) (e : E) → IsErrAnd r (λ x. x ≡ e) → W (Err e) → W r
+handed_on W (Ok v) e h w = absurd h
+handed_on W (Err x) e h w = subst (λ y. W (Err y)) (sym h) w
+
+pub fails_on : {V E : Type 0} (P : V → Type 0) (Q : E → Type 0) (r : Result V E) (e : E) → IsErrAnd r (λ x. x ≡ e) → Q e → MatchResult r P Q
+fails_on P Q r e h q = handed_on (λ y. MatchResult y P Q) r e h q
+
+pub err_is : {V E : Type 0} (r : Result V E) (x y : E) → r ≡ Err x → r ≡ Err y → x ≡ y
+err_is r x y e f = let same : Err x ≡ Err y = sym e ∙ f in cc

@@ -70,9 +70,7 @@ impl<'a> Reader<'a> {
         ensures { Took (λ rs. Belong section rs × (length rs ≡ count)) (map written) 0 self.old self.new result }
     {
         for _ in 0..count {
-            let Some((record, after)) = take::record(section, self.rest) else {
-                return Err(self.unreadable());
-            };
+            let (record, after) = take::record(section, self.rest).ok_or(self.unreadable())?;
             self.keep(record, after);
         }
         Ok(())
@@ -82,9 +80,7 @@ impl<'a> Reader<'a> {
     pub fn take_section(&mut self, section: Section) -> Result<(), ReadError>
         ensures { Took (Belong section) block 2 self.old self.new result }
     {
-        let Some((count, after)) = take::count(self.rest) else {
-            return Err(self.unreadable());
-        };
+        let (count, after) = take::count(self.rest).ok_or(self.unreadable())?;
         self.rest = after;
         self.take_records(section, count)
     }

@@ -5,7 +5,7 @@ use Rattle.image.specs.declared.errors.ReadError.TheVariants.{Memory}
 use Rattle.image.specs.declared.records.Section.TheVariants.{Admissions}
 use Rattle.image.specs.Format.{order}
 use Rattle.image.specs.Reading.{Fails}
-use Rattle.image.proofs.Turns.{walked_none, walked_more, walked_fails, walked_lost, walked_reads, walked_rest, handed_on}
+use Rattle.image.proofs.Turns.{walked_none, walked_more, walked_fails, walked_lost, walked_reads, walked_rest, fails_on}
 use Rattle.image.proofs.reading.read.Goals as goal
 
 pub loop-section-init : goal.loop-section-init
@@ -15,7 +15,7 @@ pub returns-in_err-take_section : goal.returns-in_err-take_section
 returns-in_err-take_section c =
     let i = c.loop-section.section-index in
     let later = drop (i + 1) order in
-    handed_on _ (Fails c.args.bytes.now) _ _ c.from_residual.ensures.1
+    fails_on _ (Fails c.args.bytes.now) _ _ c.from_residual.ensures.1
     (walked_fails c.loop-section.invariant _ later c.take_section.new.self _
     (sym (take-append-drop (i + 1) order) ∙ ap (λ ss. ss ++ later) (take_more order i Admissions c.loop-section-test.true))
     (omega (arith, c.if-bytes-gt-LIMIT.false)) c.in_err-take_section.ensures)
@@ -30,7 +30,7 @@ returns-then-not-is_empty c =
 
 pub returns-in_err-reader : goal.returns-in_err-reader
 returns-in_err-reader c =
-    handed_on _ (Fails c.args.bytes.now) _ Memory c.from_residual-in_err-reader.ensures.1
+    fails_on _ (Fails c.args.bytes.now) _ Memory c.from_residual-in_err-reader.ensures.1
     (walked_lost c.loop-section.invariant (take_all _ order c.loop-section-test.false) (true-eqb _ 0 c.if-not-is_empty.ensures) (omega (arith, c.if-bytes-gt-LIMIT.false)))
 
 pub returns : goal.returns
