@@ -1,11 +1,13 @@
 -- Pattern dimensions: fired dimension × 10,000 ÷ (10,000 − shrinkage), in whole numbers.
 --
--- | word      | what it is                                                                    |
--- |-----------|-------------------------------------------------------------------------------|
--- | `Exact`   | a kept word is handed on where it is the exact result                         |
--- | `Worked`  | a working has the exact results, and its quotient and rest divide the product |
--- | `Faulted` | the step that is blamed has no result                                         |
--- | `Pattern` | what the answer for a fired dimension and a shrinkage says                    |
+-- | word         | what it is                                                                    |
+-- |--------------|-------------------------------------------------------------------------------|
+-- | `Exact`      | a kept word is handed on where it is the exact result                         |
+-- | `divisor_of` | the exact divisor for a shrinkage                                             |
+-- | `product_of` | the exact product for a fired dimension                                       |
+-- | `Worked`     | a working has the exact results, and its quotient and rest divide the product |
+-- | `Faulted`    | the step that is blamed has no result                                         |
+-- | `Pattern`    | what the answer for a fired dimension and a shrinkage says                    |
 use Rattle.std.specs.Prelude.{◌≡◌, ℕ, true, false, ℤ, pos, ◌-ℤ◌, ◌*ℤ◌, Ok, Err, Result, int_div}
 use Rattle.words.specs.Division.{Divides}
 use Rattle.words.specs.Kept.{outside}

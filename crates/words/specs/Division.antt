@@ -7,7 +7,9 @@
 -- | `Truncates`    | the library's `int_div` and `int_rem` divide so, and no other two numbers do  |
 -- | `quotient_of`  | what a division of words gives: nothing for a zero divisor                    |
 -- | `remainder_of` | the same for the remainder                                                    |
+-- | `Divided`      | the laws of a division by another number than zero                            |
 -- | `Quotient`     | the laws of a division's answer                                               |
+-- | `Left`         | the laws of a remainder of such a division                                    |
 -- | `Remainder`    | the laws of a remainder's answer                                              |
 use Rattle.std.specs.Prelude.{◌≡◌, ℕ, ◌<◌, false, if◌then◌else◌, ℤ, pos, negsuc, ◌+ℤ◌, ◌*ℤ◌, ◌≤ℤ◌, Some, None, Option, ◌==◌, int_div, int_rem, unsigned_abs}
 use Rattle.words.specs.Kept.{Told, kept}

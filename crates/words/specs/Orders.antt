@@ -5,6 +5,9 @@
 -- | `compared`   | -1, 0 or 1 as a whole number is below, equal to or above another |
 -- | `lcomp`      | two words compared without a sign                                |
 -- | `dcomp`      | two pairs compared as signed numbers of 64 bits                  |
+-- | `minus`      | the word of -1                                                   |
+-- | `Word`       | a number is a word                                               |
+-- | `Halves`     | both numbers of a pair are words                                 |
 -- | `TotalOrder` | a comparison by words is a total order                           |
 use Rattle.std.specs.Prelude.{◌≡◌, ℕ, ◌-◌, ◌^◌, ◌<◌, if◌then◌else◌, ◌⊎◌, ℤ, pos, negsuc, int_lt}
 use Rattle.words.specs.Pairs.{number_of}
@@ -20,7 +23,6 @@ lcomp a b = low 32 (compared (pos a) (pos b))
 abbrev pub dcomp : Pair → Pair → ℕ
 dcomp p q = low 32 (compared (signed 64 (number_of p)) (signed 64 (number_of q)))
 
--- the word of -1
 abbrev pub minus : ℕ
 minus = 2 ^ 32 - 1
 
