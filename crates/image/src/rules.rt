@@ -26,13 +26,14 @@ pub fn count(section: Section, records: &[Record]) -> usize
         .count()
 }
 
-// Whether no section has too many records.
+// Whether no section has too many records. None has where all together are no more than one may have.
 fn counts_fit(records: &[Record]) -> bool
     ensures { IsTrue result ↔ Counted records.now }
 {
-    SECTIONS
-        .iter()
-        .all(|section| count(*section, records) <= LARGEST)
+    records.len() <= LARGEST
+        || SECTIONS
+            .iter()
+            .all(|section| count(*section, records) <= LARGEST)
 }
 
 // Whether no fill has too many bytes.

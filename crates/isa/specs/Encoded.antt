@@ -7,10 +7,9 @@
 -- | `Unspelled` | that no bytes decode to an instruction                     |
 -- | `bytes_of`  | the bytes of an encoding                                   |
 -- | `Encodes`   | what encoding an instruction answers                       |
-use Rattle.std.specs.Prelude.{◌≡◌, ℕ, ◌<◌, List, Some, None, Ok, Option, ◌≢◌, slice_index}
+use Rattle.std.specs.Prelude.{◌≡◌, ℕ, ◌<◌, List, take, Some, None, Ok, Option, ◌≢◌, slice_index}
 use Rattle.isa.specs.Decoding.{decoded}
 use Rattle.isa.specs.declared.encoding.Encoding.{Encoding}
-use Rattle.isa.specs.declared.encoding.Encoding.TheVariants.{Register, Short, Long}
 use Rattle.isa.specs.declared.kinds.Instruction.{Instruction}
 
 abbrev pub Bytes : List ℕ → Type 0
@@ -24,9 +23,7 @@ abbrev pub Unspelled : Instruction → Type 0
 Unspelled i = (bs : List ℕ) → Bytes bs → decoded bs ≢ Ok i
 
 abbrev pub bytes_of : Encoding → List ℕ
-bytes_of (Register bs) = bs
-bytes_of (Short bs) = bs
-bytes_of (Long bs) = bs
+bytes_of e = take e.size e.bytes
 
 abbrev pub Encodes : Instruction → Option Encoding → Type 0
 Encodes i (Some e) = Spells i (bytes_of e)

@@ -93,11 +93,18 @@ impl Instruction {
         let xy = i.x * 16 + i.y;
         let [a, b, c, d] = i.displacement.to_be_bytes();
         match i.size {
-            2 if op < 0x80 && i.displacement == 0 => Some(Encoding::Register([op, xy])),
-            4 if op >= 0x80 && short_displacement(c, d) == i.displacement => {
-                Some(Encoding::Short([op, xy, c, d]))
-            }
-            6 if op >= 0x80 => Some(Encoding::Long([op + 16, xy, a, b, c, d])),
+            2 if op < 0x80 && i.displacement == 0 => Some(Encoding {
+                bytes: [op, xy, 0, 0, 0, 0],
+                size: 2,
+            }),
+            4 if op >= 0x80 && short_displacement(c, d) == i.displacement => Some(Encoding {
+                bytes: [op, xy, c, d, 0, 0],
+                size: 4,
+            }),
+            6 if op >= 0x80 => Some(Encoding {
+                bytes: [op + 16, xy, a, b, c, d],
+                size: 6,
+            }),
             _ => None,
         }
     }

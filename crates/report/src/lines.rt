@@ -7,7 +7,8 @@ use disasm::Text;
 use image::{Placed, Record};
 use std::fmt;
 
-// Bytes in hexadecimal digits, one after another.
+// Bytes in hexadecimal digits, one after another. They are written in pairs, since each number that is written has
+// its own cost.
 #[derive(Clone, Copy)]
 struct Hexes<'a>(&'a [u8]);
 
@@ -15,7 +16,12 @@ impl fmt::Display for Hexes<'_> {
     ghost output = { λ b. Some (hexes b.0.now) };
 
     fn fmt<W: fmt::Write>(&self, f: &mut fmt::Formatter<W>) -> fmt::Result {
-        for &b in self.0 {
+        let (pairs, last) = self.0.as_chunks::<2>();
+        for &[a, b] in pairs {
+            let pair = u16::from_be_bytes([a, b]);
+            write!(f, "{pair:04x}")?;
+        }
+        for &b in last {
             write!(f, "{b:02x}")?;
         }
         Ok(())
