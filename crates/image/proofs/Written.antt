@@ -1,16 +1,35 @@
 -- How long an image is, and what reading one that was written gives.
-use Rattle.std.proofs.Common.{◌≡◌, ℕ, ◌+◌, ◌*◌, ◌≤◌, List, [], ◌∷◌, ◌++◌, map, length, sym, refl, ap, ◌∙◌, subst, append-nil, arith, length-append}
+use Rattle.std.proofs.Common.{Bool, true, false, not, nat_eq, cond, ◌≡◌, ℕ, ◌+◌, ◌*◌, ◌≤◌, List, [], ◌∷◌, ◌++◌, map, length, sym, refl, ap, ◌∙◌, subst, append-nil, arith, length-append}
 use Rattle.std.specs.List.{flat_map}
 use Rattle.std.proofs.lemmas.List.{map-append, map_push}
+use Rattle.std.proofs.lemmas.List.Elements.{filter-append}
+use Rattle.std.proofs.lemmas.List.Filters.{length-filter_both}
 use Rattle.image.specs.declared.errors.ReadError.{ReadError}
 use Rattle.image.specs.declared.errors.ReadError.TheVariants.{Unreadable, Memory}
 use Rattle.image.specs.declared.records.Record.{Record}
 use Rattle.image.specs.declared.records.Section.{Section}
-use Rattle.image.specs.Format.{written, among, sections, flat, Ordered, block, image, places, stand, bare}
+use Rattle.image.specs.Format.{number, section_of, written, among, sections, flat, Ordered, block, image, places, stand, bare}
 use Rattle.image.specs.Reading.{Fails}
 use Rattle.image.specs.Writing.{total, Writable, Writes}
 use Rattle.image.proofs.Grammar.{joined-append, length-flat}
 use Rattle.image.proofs.Images.{image-is}
+
+-- one record more among those of a section
+pub among-push : (s : Section) (rs : List Record) (r : Record) →
+    length (among s (rs ++ r ∷ [])) ≡ length (among s rs) + cond (nat_eq (number (section_of r)) (number s)) 1 0
+among-push s rs r =
+    let own : Record → Bool = λ x. nat_eq (number (section_of x)) (number s) in
+    ap length (filter-append own rs (r ∷ [])) ∙ length-append (among s rs) (among s (r ∷ [])) ∙ ap (λ n. length (among s rs) + n) (one (own r))
+  where
+    one : (b : Bool) → length (cond b (r ∷ []) []) ≡ cond b 1 0
+    one true = refl
+    one false = refl
+
+-- no section has more records than all together
+pub among_few : (s : Section) (rs : List Record) → length (among s rs) ≤ length rs
+among_few s rs =
+    let own : Record → Bool = λ r. nat_eq (number (section_of r)) (number s) in
+    omega (arith, length-filter_both own (λ r. not (own r)) (λ r. refl) rs)
 
 pub total-append : (xs ys : List Record) → total (xs ++ ys) ≡ total xs + total ys
 total-append [] ys = omega arith

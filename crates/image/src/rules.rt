@@ -16,14 +16,14 @@ fn in_order(records: &[Record]) -> bool
     records.is_sorted_by(|a, b| a.section() <= b.section())
 }
 
-// How many records belong to a section.
+// How many records belong to a section. The sum may wrap by its type, so that the compiler adds up several records at
+// a time; no slice is so long that it does.
 pub fn count(section: Section, records: &[Record]) -> usize
     ensures { result ≡ length (among section records.now) }
 {
-    records
-        .iter()
-        .filter(|record| record.section() == section)
-        .count()
+    records.iter().fold(0, |n: usize, record| {
+        n.wrapping_add(usize::from(record.section() == section))
+    })
 }
 
 // Whether no section has too many records. None has where all together are no more than one may have.

@@ -1,26 +1,22 @@
-use Rattle.std.proofs.Common.{ℕ, ◌<◌, ◌≤◌, All, Bool, true, false, not, nat_eq, IsTrue, List, length, get_or, MatchBool, refl, arith, rules, tests}
+use Rattle.std.proofs.Common.{ℕ, ◌<◌, ◌≤◌, All, Bool, true, false, IsTrue, List, length, get_or, MatchBool, arith, rules, tests}
 use Rattle.std.specs.List.{HoldsAt, AllWithin}
 use Rattle.std.proofs.lemmas.Bool.{false≢true}
 use Rattle.std.proofs.lemmas.Iterator.{cases_from_all, YieldsList-from_slice}
 use Rattle.std.proofs.lemmas.Iterator.Search.{true_from_All}
 use Rattle.std.proofs.lemmas.List.Elements.{All-from_all_within}
-use Rattle.std.proofs.lemmas.List.Filters.{length-filter_both}
 use Rattle.image.specs.declared.records.Section.{Section}
 use Rattle.image.specs.declared.records.Record.{Record}
-use Rattle.image.specs.Format.{order, among, number, section_of}
+use Rattle.image.specs.Format.{order, among}
 use Rattle.image.specs.Writing.{Counted}
+use Rattle.image.proofs.Written.{among_few}
 use Rattle.image.proofs.rules.counts_fit.Goals as goal
 
 all_from_cases : {X : Type 0} (P Q : X → Type 0) (r : Bool) (xs : List X) → MatchBool r (AllWithin P xs 0 (length xs)) ((k : ℕ) × (k < length xs) × HoldsAt Q xs k) → IsTrue r → All P xs
 all_from_cases P Q true xs h e = All-from_all_within P xs h
 all_from_cases P Q false xs h e = absurd (false≢true e)
 
--- no section has more records than all together
 few : (rs : List Record) → length rs ≤ 65535 → Counted rs
-few rs h i d less =
-    let s = get_or order i d in
-    let own : Record → Bool = λ r. nat_eq (number (section_of r)) (number s) in
-    omega (arith, length-filter_both own (λ r. not (own r)) (λ r. refl) rs)
+few rs h i d less = omega (arith, h, among_few (get_or order i d) rs)
 
 pub returns-then-records-le-LARGEST : goal.returns-then-records-le-LARGEST
 returns-then-records-le-LARGEST c = (λ _. few c.args.records.now (search rules), λ _. search rules)
