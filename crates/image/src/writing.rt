@@ -3,27 +3,15 @@ ghost use Rattle.std.specs.Prelude.{◌≡◌, ◌≤◌, ℕ, List, All, length
 ghost use Rattle.image.specs.Format.{half, word, written, among, flat, block};
 ghost use Rattle.image.specs.Writing.{Adds, Short, Broken, Writes};
 ghost use Rattle.image.specs.declared.records.Record.TheVariants.{Admit, Grant as GrantOf, Fill as FillOf, Put as PutOf, Run as RunOf};
+ghost use Rattle.isa.specs.Sides.{side_number};
 
 use super::errors::WriteError;
 use super::records::{Admission, Fill, Grant, Put, Record, Run, SECTIONS, Section};
 use super::rules;
+use isa::Side;
 use std::alloc::{AllocError, Global};
 
-// 16 bits, the most significant byte first.
-fn two_bytes(n: u16) -> [u8; 2]
-    ensures { result ≡ half n }
-{
-    n.to_be_bytes()
-}
-
-// 32 bits, the most significant byte first.
-fn four_bytes(n: u32) -> [u8; 4]
-    ensures { result ≡ word n }
-{
-    n.to_be_bytes()
-}
-
-// What has bytes in an image. A record adds its fields at once, since each addition takes time of its own.
+// What has bytes in an image. Numbers have their most significant byte first.
 trait Encode: Copy {
     ghost bytes: { Self → List ℕ };
 
@@ -42,7 +30,17 @@ impl Encode for u16 {
     ghost fits = { λ _. Unit {0} };
 
     fn encode(self, out: &mut Vec<u8>) -> Result<(), AllocError> {
-        out.extend_from_slice(&two_bytes(self))
+        out.extend_from_slice(&self.to_be_bytes())
+    }
+}
+
+impl Encode for u32 {
+    ghost bytes = { word };
+
+    ghost fits = { λ _. Unit {0} };
+
+    fn encode(self, out: &mut Vec<u8>) -> Result<(), AllocError> {
+        out.extend_from_slice(&self.to_be_bytes())
     }
 }
 
@@ -52,10 +50,9 @@ impl Encode for Admission {
     ghost fits = { λ _. Unit {0} };
 
     fn encode(self, out: &mut Vec<u8>) -> Result<(), AllocError> {
-        let [p0, p1] = two_bytes(self.p);
-        let [f0, f1] = two_bytes(self.first);
-        let [c0, c1] = two_bytes(self.count);
-        out.extend_from_slice(&[p0, p1, f0, f1, c0, c1])
+        self.p.encode(out)?;
+        self.first.encode(out)?;
+        self.count.encode(out)
     }
 }
 
@@ -65,11 +62,20 @@ impl Encode for Grant {
     ghost fits = { λ _. Unit {0} };
 
     fn encode(self, out: &mut Vec<u8>) -> Result<(), AllocError> {
-        let [p0, p1] = two_bytes(self.p);
-        let [s0, s1] = two_bytes(u16::from(self.side));
-        let [g0, g1, g2, g3] = four_bytes(self.page);
-        let [k0, k1] = two_bytes(self.k);
-        out.extend_from_slice(&[p0, p1, s0, s1, g0, g1, g2, g3, k0, k1])
+        self.p.encode(out)?;
+        self.side.encode(out)?;
+        self.page.encode(out)?;
+        self.k.encode(out)
+    }
+}
+
+impl Encode for Side {
+    ghost bytes = { λ s. half (side_number s) };
+
+    ghost fits = { λ _. Unit {0} };
+
+    fn encode(self, out: &mut Vec<u8>) -> Result<(), AllocError> {
+        u16::from(self).encode(out)
     }
 }
 
@@ -79,11 +85,11 @@ impl Encode for Fill<'_> {
     ghost fits = { λ f. length f.bytes.now ≤ 65535 };
 
     fn encode(self, out: &mut Vec<u8>) -> Result<(), AllocError> {
-        let [p0, p1] = two_bytes(self.p);
-        let [k0, k1] = two_bytes(self.k);
-        let [o0, o1] = two_bytes(self.offset);
-        let [n0, n1] = two_bytes(self.bytes.len() as u16);
-        out.extend_from_slice(&[p0, p1, k0, k1, o0, o1, n0, n1])?;
+        let length = self.bytes.len() as u16;
+        self.p.encode(out)?;
+        self.k.encode(out)?;
+        self.offset.encode(out)?;
+        length.encode(out)?;
         out.extend_from_slice(self.bytes)
     }
 }
@@ -94,10 +100,9 @@ impl Encode for Put {
     ghost fits = { λ _. Unit {0} };
 
     fn encode(self, out: &mut Vec<u8>) -> Result<(), AllocError> {
-        let [p0, p1] = two_bytes(self.p);
-        let [r0, r1] = two_bytes(self.r);
-        let [v0, v1, v2, v3] = four_bytes(self.value);
-        out.extend_from_slice(&[p0, p1, r0, r1, v0, v1, v2, v3])
+        self.p.encode(out)?;
+        self.r.encode(out)?;
+        self.value.encode(out)
     }
 }
 
@@ -107,9 +112,8 @@ impl Encode for Run {
     ghost fits = { λ _. Unit {0} };
 
     fn encode(self, out: &mut Vec<u8>) -> Result<(), AllocError> {
-        let [p0, p1] = two_bytes(self.p);
-        let [n0, n1, n2, n3] = four_bytes(self.n);
-        out.extend_from_slice(&[p0, p1, n0, n1, n2, n3])
+        self.p.encode(out)?;
+        self.n.encode(out)
     }
 }
 
